@@ -1,0 +1,4 @@
+pub mod Trace
+pub mod Order
+pub mod Race
+pub mod Renaming

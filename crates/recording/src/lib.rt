@@ -1,0 +1,3 @@
+//! Recordings of crane panels: operations, their records, and the binary file.
+pub mod marks;
+pub mod row;
