@@ -74,14 +74,14 @@ pub data Class (D : Precedence) (trace : List Row) (i j : ℕ) : ℕ → Type 0 
   co-enabled : (Multi-threaded trace i j → ⊥) → Co-enabled D trace i j → Class D trace i j 2
   delayed : (Multi-threaded trace i j → ⊥) → (Co-enabled D trace i j → ⊥) → Delay-apart trace i j → Class D trace i j 3
   cross-posted :
-    (Multi-threaded trace i j → ⊥)
-    → (Co-enabled D trace i j → ⊥)
-    → (Delay-apart trace i j → ⊥)
-    → Cross-posted trace i j
-    → Class D trace i j 4
+      (Multi-threaded trace i j → ⊥)
+      → (Co-enabled D trace i j → ⊥)
+      → (Delay-apart trace i j → ⊥)
+      → Cross-posted trace i j
+      → Class D trace i j 4
   unknown :
-    (Multi-threaded trace i j → ⊥)
-    → (Co-enabled D trace i j → ⊥)
-    → (Delay-apart trace i j → ⊥)
-    → (Cross-posted trace i j → ⊥)
-    → Class D trace i j 5
+      (Multi-threaded trace i j → ⊥)
+      → (Co-enabled D trace i j → ⊥)
+      → (Delay-apart trace i j → ⊥)
+      → (Cross-posted trace i j → ⊥)
+      → Class D trace i j 5

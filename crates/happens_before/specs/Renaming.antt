@@ -27,10 +27,11 @@ renamed m r =
       code = r .code;
       thread = m .threads .to (r .thread);
       item =
-        cond (has-task (r .code)) (m .tasks .to (r .item))
-        (cond (has-lock (r .code)) (m .locks .to (r .item))
-        (cond (has-location (r .code)) (m .locations .to (r .item)) (r .item)));
+          cond (has-task (r .code)) (m .tasks .to (r .item))
+          (cond (has-lock (r .code)) (m .locks .to (r .item))
+          (cond (has-location (r .code)) (m .locations .to (r .item)) (r .item)));
       target = cond (has-target (r .code)) (m .threads .to (r .target)) (r .target);
       marks = r .marks;
       reserved = r .reserved;
-      delay = r .delay }
+      delay = r .delay;
+    }

@@ -1,0 +1,9 @@
+mod PostRows
+mod LowFirst
+mod FixedLength
+mod RecordBytes
+mod Parts
+mod LawfulRows
+mod LawfulFiles
+mod ReadRows
+mod FileBytes

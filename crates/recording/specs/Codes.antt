@@ -59,3 +59,6 @@ has-lock c = eqb c acquire || eqb c release
 
 abbrev pub has-location : ℕ → Bool
 has-location c = eqb c read || eqb c write
+
+abbrev pub has-item : ℕ → Bool
+has-item c = has-task c || (has-lock c || has-location c)

@@ -1,2 +1,12 @@
 pub mod Codes
 pub mod Posts
+pub mod Faults
+pub mod Lawful
+pub mod Rows
+pub mod Bytes
+pub mod Records
+pub mod Disciplines
+pub mod Files
+pub mod Headers
+pub mod Reading
+pub mod Recordings

@@ -1,0 +1,26 @@
+-- What a value that was read says.
+use Prim.Native.Nat.{ℕ}
+use mathlib.Core.List.{List}
+use Rattle.std.specs.Of.Vec.{vec-items}
+use Rattle.std.specs.declared.result.Result.{Result}
+use Rattle.std.specs.declared.result.Result.the-variants.{Ok, Err}
+use Rattle.recording.specs.declared.operation.Operation.{Operation}
+use Rattle.recording.specs.declared.recording.Recording.{Recording}
+use Rattle.recording.specs.declared.faults.error.ReadError.{ReadError}
+use Rattle.recording.specs.declared.faults.error.ReadError.the-variants.{Fault, Memory}
+use Rattle.recording.specs.declared.row.Row.{Row}
+use Rattle.recording.specs.Disciplines.{disciplineNumber}
+use Rattle.recording.specs.Files.{Contents, Reads}
+
+abbrev pub operationRow : Operation → Row
+operationRow o = o .row
+
+abbrev pub contentsOf : Recording → Contents
+contentsOf r =
+    record { discipline = disciplineNumber (r .discipline); mask = r .mask; rows = vec-items (r .rows) }
+
+-- the answer of a read, or want of memory
+abbrev pub Answers : List ℕ → Result Recording ReadError → Type 0
+Answers file (Ok r) = Reads file (Ok (contentsOf r))
+Answers file (Err (Fault f)) = Reads file (Err f)
+Answers file (Err Memory) = Unit {0}
