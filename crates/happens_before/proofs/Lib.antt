@@ -1,0 +1,12 @@
+pub mod Tested
+pub mod Column
+pub mod Rules
+pub mod Alike
+pub mod Columns
+pub mod Least
+pub mod Pass
+pub mod Posted
+pub mod Agree
+pub mod Extended
+pub mod Renamed
+pub mod Races

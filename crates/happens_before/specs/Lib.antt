@@ -2,3 +2,4 @@ pub mod Trace
 pub mod Order
 pub mod Race
 pub mod Renaming
+pub mod Theorems

@@ -79,3 +79,43 @@ contents-lawful f lawful fits d m rows e r =
       count = let l = few f lawful in let c = r .count in omega arith;
       rows = r .lawful-rows;
     }
+
+pub header-spelled :
+    (d m n : ℕ) (c b : List ℕ) → c ≡ bytesOf 2 n → b ≡ bytesOf 8 m
+    → 84
+    ∷ 76
+    ∷ 82
+    ∷ d
+    ∷ 1
+    ∷ 0
+    ∷ getD c 0 0
+    ∷ getD c 1 0
+    ∷ getD b 0 0
+    ∷ getD b 1 0
+    ∷ getD b 2 0
+    ∷ getD b 3 0
+    ∷ getD b 4 0
+    ∷ getD b 5 0
+    ∷ getD b 6 0
+    ∷ getD b 7 0
+    ∷ []
+    ≡ headerOf d m n
+header-spelled d m n c b e f =
+    λ t.
+    84
+    ∷ 76
+    ∷ 82
+    ∷ d
+    ∷ 1
+    ∷ 0
+    ∷ getD (e t) 0 0
+    ∷ getD (e t) 1 0
+    ∷ getD (f t) 0 0
+    ∷ getD (f t) 1 0
+    ∷ getD (f t) 2 0
+    ∷ getD (f t) 3 0
+    ∷ getD (f t) 4 0
+    ∷ getD (f t) 5 0
+    ∷ getD (f t) 6 0
+    ∷ getD (f t) 7 0
+    ∷ []

@@ -7,3 +7,5 @@ mod LawfulRows
 mod LawfulFiles
 mod ReadRows
 mod FileBytes
+mod WrittenRecords
+mod ReadBack

@@ -10,3 +10,4 @@ pub mod Files
 pub mod Headers
 pub mod Reading
 pub mod Recordings
+pub mod Writing

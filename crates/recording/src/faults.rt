@@ -3,3 +3,4 @@ pub mod error;
 pub mod file;
 pub mod read;
 pub mod record;
+pub mod write;

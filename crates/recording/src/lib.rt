@@ -12,3 +12,4 @@ pub mod reader;
 pub mod record;
 pub mod recording;
 pub mod row;
+pub mod writer;
