@@ -1,0 +1,2 @@
+pub mod Disciplines
+pub mod Recorded

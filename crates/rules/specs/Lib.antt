@@ -1,0 +1,4 @@
+pub mod Numbers
+pub mod Acceptance
+pub mod Answers
+pub mod Runs

@@ -1,0 +1,4 @@
+//! The rules of an examination: what is accepted, what each call answers, and the laws of whole runs.
+pub mod faults;
+pub mod order;
+pub mod race;
