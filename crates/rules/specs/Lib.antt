@@ -1,4 +1,5 @@
 pub mod Numbers
+pub mod Options
 pub mod Acceptance
 pub mod Answers
 pub mod Runs
