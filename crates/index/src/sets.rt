@@ -22,4 +22,5 @@ pub struct Index {
     members: [Column; 512],
 }
 
+pub mod given;
 pub mod noting;
