@@ -27,13 +27,13 @@ never : {F : Type 0} {A : Type 0} (f : F) → Some f ≡ None → A
 never {F} f e = absurd (clash (sym (ap (isSome {T = F}) e)))
 
 -- the n-th test
-abbrev test : {F : Type 0} → ℕ → List (Bool × F) → Bool
+abbrev pub test : {F : Type 0} → ℕ → List (Bool × F) → Bool
 test n [] = false
 test zero (t ∷ ts) = t .0
 test (suc n) (t ∷ ts) = test n ts
 
 -- where no fault is found, each test came out false
-passed : {F : Type 0} (n : ℕ) (ts : List (Bool × F)) → first ts ≡ None → test n ts ≡ false
+pub passed : {F : Type 0} (n : ℕ) (ts : List (Bool × F)) → first ts ≡ None → test n ts ≡ false
 passed zero [] e = refl
 passed (suc n) [] e = refl
 passed n ((true, f) ∷ ts) e = never f e

@@ -3,7 +3,7 @@ mod LowFirst
 mod FixedLength
 mod RecordBytes
 mod Parts
-mod LawfulRows
+pub mod LawfulRows
 mod LawfulFiles
 mod ReadRows
 mod FileBytes

@@ -1,5 +1,7 @@
 pub mod Numbers
 pub mod Options
 pub mod Acceptance
+pub mod Fair
 pub mod Answers
 pub mod Runs
+pub mod Theorems

@@ -1,0 +1,1 @@
+//! The column of a new operation: what is before it.
