@@ -5,7 +5,6 @@ ghost use Prim.Native.Nat.{_<_, _≤_};
 ghost use Rattle.std.specs.Results.{Cases};
 ghost use Rattle.std.specs.declared.option.Option.the-variants.{Some, None};
 ghost use Rattle.recording.specs.Lawful.{faultIn, lawful as lawfulRow};
-ghost use Rattle.recording.specs.Posts.{marksIn};
 ghost use Rattle.recording.specs.Rows.{rowOf};
 use crate::action::Action;
 use crate::code;
@@ -54,7 +53,7 @@ impl Operation {
             code::JOIN => Action::Join(Thread::of(row.target)),
             code::ATTACHQ => Action::AttachQ,
             code::LOOPONQ => Action::LoopOnQ,
-            code::POST => Action::Post(Task::of(row.item), Thread::of(row.target), marks(row)),
+            code::POST => Action::Post(Task::of(row.item), Thread::of(row.target), Marks::in_row(row)),
             code::BEGIN => Action::Begin(Task::of(row.item)),
             code::END => Action::End(Task::of(row.item)),
             code::ACQUIRE => Action::Acquire(lock(row)),
@@ -64,19 +63,6 @@ impl Operation {
             _ => Action::Write(Location::new(row.item)),
         }
     }
-}
-
-/// The marks of a post's row.
-fn marks(row: Row) -> Marks
-    ensures { λ r. ⌜ r ≡ marksIn row ⌝ }
-{
-    let environment = row.marks % 2 == 1;
-    let delay = if row.marks >= 2 {
-        Some(row.delay)
-    } else {
-        None
-    };
-    Marks { environment, delay }
 }
 
 fn lock(row: Row) -> Lock
