@@ -1,9 +1,9 @@
 -- The definitions allow one answer to each call, and one outcome of each run.
 use mathlib.Core.Path.{_≡_, refl, sym, _∙_, subst, ap}
-use mathlib.Core.Bool.{Bool, true, false, _&&_}
+use mathlib.Core.Bool.{true, _&&_}
 use mathlib.Core.List.{List, [], _∷_, _++_}
-use mathlib.Core.Logic.{_⊎_, inl, inr, ⊎-elim, _↔_}
-use Prim.Native.Nat.{ℕ, _<_, _≤_}
+use mathlib.Core.Logic.{_⊎_, inl, inr, ⊎-elim}
+use Prim.Native.Nat.{ℕ, _<_}
 use native.Mathlib.Omega.{arith}
 use lib.Dec.{ltb}
 use lib.ListN.{length, drop}
@@ -15,18 +15,14 @@ use Rattle.std.proofs.shelf.Ways.{same-from-decides}
 use Rattle.recording.specs.declared.row.Row.{Row}
 use Rattle.columns.proofs.Counts.{tally-same}
 use Rattle.happens_before.specs.Order.{Precedence, Pairs, Closed, Before as IsBefore}
-use Rattle.happens_before.specs.Race.{Race as IsRace, Class}
 use Rattle.happens_before.proofs.Races.{class-one}
 use Rattle.rules.specs.declared.faults.StateFault.{StateFault}
 use Rattle.rules.specs.declared.order.Order.{Order}
 use Rattle.rules.specs.declared.race.RaceRow.{RaceRow}
 use Rattle.rules.specs.Acceptance.{Setting, refusal}
-use Rattle.rules.specs.Answers.{
-  Count, Ordered, same, before, after, unordered, Classed, no-race, race, In, here, there, Rises, Rising, Race-list }
+use Rattle.rules.specs.Answers.{Count, Ordered, same, before, after, unordered, Classed, no-race, race, In, here, there, Rises, Rising, Race-list}
 use Rattle.rules.specs.Numbers.{stateNumber}
-use Rattle.rules.specs.Runs.{
-  Call, Answer, added, ordered, classed, listed, needs, refused, Step, adds, refuses, cuts, cuts-not, orders, orders-not,
-  classes, classes-not, lists, lists-not, Run, done, next }
+use Rattle.rules.specs.Runs.{Call, Answer, added, ordered, classed, listed, needs, refused, Step, adds, refuses, cuts, cuts-not, orders, orders-not, classes, classes-not, lists, lists-not, Run, done, next}
 
 -- ---- Counts
 
@@ -115,12 +111,12 @@ rises-self q r h e = rises-not q r h (subst (λ x. Rises x q) (sym e) (subst (Ri
 
 -- rising lists with the same members
 pub rising-one :
-  (xs ys : List RaceRow)
-  → Rising xs
-  → Rising ys
-  → ((r : RaceRow) → In r xs → In r ys)
-  → ((r : RaceRow) → In r ys → In r xs)
-  → xs ≡ ys
+    (xs ys : List RaceRow)
+    → Rising xs
+    → Rising ys
+    → ((r : RaceRow) → In r xs → In r ys)
+    → ((r : RaceRow) → In r ys → In r xs)
+    → xs ≡ ys
 rising-one [] [] h g to back = refl
 rising-one [] (y ∷ ys) h g to back = elim (back y here) [ ]
 rising-one (x ∷ xs) [] h g to back = elim (to x here) [ ]
@@ -163,10 +159,10 @@ not-both o f e g = let z : _≡_ {A = ℕ} 0 1 = cc in omega arith
 
 module _ (s : Setting) (held : List Row) where
   pub step-one :
-    {c : Call} {a b : Answer} {left left′ : List Row}
-    → Step s held c a left
-    → Step s held c b left′
-    → (a ≡ b) × (left ≡ left′)
+      {c : Call} {a b : Answer} {left left′ : List Row}
+      → Step s held c a left
+      → Step s held c b left′
+      → (a ≡ b) × (left ≡ left′)
   step-one (adds {o = o} e n) (adds f m) = (ap (added (length held)) (count-one _ _ _ _ n m), refl)
   step-one (adds {o = o} e n) (refuses f) = absurd (not-both (refusal s held o) _ e f)
   step-one (refuses {o = o} e) (adds f m) = absurd (not-both (refusal s held o) _ f e)
@@ -199,10 +195,10 @@ module _ (s : Setting) (held : List Row) where
       (ap (λ (x : List RaceRow). needs (length x) p) (list-one (s .precedence) held x y r q), refl)
 
 pub run-one :
-  (s : Setting) {held : List Row} {calls : List Call} {answers answers′ : List Answer} {left left′ : List Row}
-  → Run s held calls answers left
-  → Run s held calls answers′ left′
-  → (answers ≡ answers′) × (left ≡ left′)
+    (s : Setting) {held : List Row} {calls : List Call} {answers answers′ : List Answer} {left left′ : List Row}
+    → Run s held calls answers left
+    → Run s held calls answers′ left′
+    → (answers ≡ answers′) × (left ≡ left′)
 run-one s done done = (refl, refl)
 run-one s (next {held = held} x xs) (next {after = left} {calls = calls} {answers = answers} y ys) =
     let (e, f) = step-one s held x y in

@@ -1,18 +1,16 @@
 -- What a list gives whose operations were each accepted on what stood before.
 use mathlib.Core.Path.{_≡_, refl, sym, _∙_, subst, subst₂, ap}
-use mathlib.Core.Bool.{Bool, true, false, not, cond, _&&_, _||_}
+use mathlib.Core.Bool.{Bool, true, false, not, _&&_, _||_}
 use mathlib.Core.List.{List, [], _∷_, _++_}
-use mathlib.Core.Logic.{_⊎_, inl, inr, ⊎-elim}
-use Prim.Native.Nat.{ℕ, zero, suc, _<_, _≤_}
+use mathlib.Core.Logic.{⊎-elim}
+use Prim.Native.Nat.{ℕ, _<_, _≤_}
 use native.Mathlib.Omega.{arith}
-use lib.Dec.{eqb, leb}
+use lib.Dec.{eqb}
 use lib.ListN.{length, take}
-use borrow.Author.Tests.{clash, not-true, not-false, both-ways, eqb-true, eq-eqb, leb-false, lt-leb}
-use Rattle.std.specs.Options.{isSome}
-use Rattle.std.specs.declared.option.Option.{Option}
-use Rattle.std.specs.declared.option.Option.the-variants.{Some, None}
+use borrow.Author.Tests.{not-true, not-false, both-ways, eqb-true, eq-eqb, leb-false, lt-leb}
+use Rattle.std.specs.declared.option.Option.the-variants.{None}
 use Rattle.std.proofs.shelf.Lists.{getD-append-left, getD-push, length-push, length-take, take-append-le, take-at, take-take}
-use Rattle.std.proofs.shelf.Tests.{cases-order, cases-lt, cases-bool, and-parts, and-from, or-parts, or-left, or-from}
+use Rattle.std.proofs.shelf.Tests.{cases-order, cases-lt, cases-bool, and-parts, and-from, or-parts}
 use Rattle.recording.specs.Codes.{post, begin, end}
 use Rattle.recording.specs.Faults.{first}
 use Rattle.recording.specs.Lawful.{lawful}
@@ -21,12 +19,8 @@ use Rattle.recording.proofs.LawfulRows.{passed, thread-fits, target-fits, task-
 use Rattle.happens_before.specs.Trace.{blank, row, code, thread, item, Does, Belongs, Posts}
 use Rattle.happens_before.specs.Race.{Task-post}
 use Rattle.happens_before.specs.Theorems.{Posted-first, In-range, All-in-range}
-use Rattle.rules.specs.declared.faults.StateFault.{StateFault}
-use Rattle.rules.specs.declared.faults.StateFault.the-variants.{
-  Full, ThreadNotReady, WrongTarget, WrongQueue, WrongLock, OutOfTurn, NotAdmitted }
-use Rattle.rules.specs.Acceptance.{
-  Setting, isOn, doesOn, current, busy, posted, begun, waits, overtakes, thread-not-ready, wrong-target, wrong-queue,
-  wrong-lock, out-of-turn, not-admitted, stateTests, refusal }
+use Rattle.rules.specs.declared.faults.StateFault.the-variants.{Full, ThreadNotReady, WrongTarget, WrongQueue, WrongLock, OutOfTurn, NotAdmitted}
+use Rattle.rules.specs.Acceptance.{Setting, isOn, doesOn, current, busy, posted, begun, waits, overtakes, thread-not-ready, wrong-target, wrong-queue, wrong-lock, out-of-turn, not-admitted, stateTests, refusal}
 use Rattle.rules.specs.Fair.{Fair, Fair-tables, no-discipline, turn-without-discipline, refused-by-tables}
 use Rattle.rules.proofs.Places.{coded-held, row-before, some-before, found-before, lasting-before}
 use Rattle.rules.proofs.Pushes.{some-below-true}
@@ -75,10 +69,10 @@ pub record Allowed (initial : ℕ → Bool) (held : List Row) (o : Row) : Type 0
   pub right-target : wrong-target (no-discipline initial) held o ≡ false
   pub right-queue : wrong-queue (no-discipline initial) held o ≡ false
   pub right-lock : wrong-lock (no-discipline initial) held o ≡ false
-  pub in-turn : turn-without-discipline initial held o ≡ false
+  pub in-turn : turn-without-discipline held o ≡ false
 
 pub allowed :
-  (initial : ℕ → Bool) (held : List Row) (o : Row) → refused-by-tables initial held o ≡ false → Allowed initial held o
+    (initial : ℕ → Bool) (held : List Row) (o : Row) → refused-by-tables initial held o ≡ false → Allowed initial held o
 unfolding refused-by-tables
 allowed initial held o h =
     let a = or-parts _ _ h in
@@ -88,7 +82,7 @@ allowed initial held o h =
     record { thread-ready = a .0; right-target = b .0; right-queue = c .0; right-lock = d .0; in-turn = d .1 }
 
 pub not-refused :
-  (initial : ℕ → Bool) (held : List Row) (o : Row) → Allowed initial held o → refused-by-tables initial held o ≡ false
+    (initial : ℕ → Bool) (held : List Row) (o : Row) → Allowed initial held o → refused-by-tables initial held o ≡ false
 unfolding refused-by-tables
 not-refused initial held o a =
     λ t. a .thread-ready t || (a .right-target t || (a .right-queue t || (a .right-lock t || a .in-turn t)))
@@ -122,6 +116,17 @@ pub fair-tables : (s : Setting) (held : List Row) → Fair s held → Fair-table
 fair-tables s held fair i l =
     let (w, h) = fair i l in
     (w, not-refused _ _ _ (accepted-allowed s (take i held) (row held i) (accepted s (take i held) (row held i) h)))
+
+pub fair-length : (s : Setting) (held : List Row) → Fair s held → length held ≤ 512
+fair-length s held fair =
+    ⊎-elim
+    (λ l.
+    let a = accepted s (take 512 held) (row held 512) (fair 512 l .1) .room in
+    let e = length-take 512 held in
+    let n : ⊥ = omega arith in
+    absurd n)
+    (λ l. l)
+    (cases-lt 512 (length held))
 
 -- ---- Lists with a fact of each operation and what stood before it
 
@@ -157,7 +162,7 @@ module _ (s : Setting) where
   fair-none = each-none fair-at
 
   pub fair-push :
-    (held : List Row) (o : Row) → Fair s held → lawful o ≡ true → refusal s held o ≡ None → Fair s (held ++ o ∷ [])
+      (held : List Row) (o : Row) → Fair s held → lawful o ≡ true → refusal s held o ≡ None → Fair s (held ++ o ∷ [])
   unfolding fair-at
   fair-push held o fair w h = each-push fair-at held o fair (w, h)
 
@@ -174,11 +179,11 @@ module _ (initial : ℕ → Bool) where
   tables-none = each-none table-at
 
   pub tables-push :
-    (held : List Row) (o : Row)
-    → Fair-tables initial held
-    → lawful o ≡ true
-    → refused-by-tables initial held o ≡ false
-    → Fair-tables initial (held ++ o ∷ [])
+      (held : List Row) (o : Row)
+      → Fair-tables initial held
+      → lawful o ≡ true
+      → refused-by-tables initial held o ≡ false
+      → Fair-tables initial (held ++ o ∷ [])
   unfolding table-at
   tables-push held o fair w h = each-push table-at held o fair (w, h)
 
@@ -202,9 +207,9 @@ module _ (initial : ℕ → Bool) (held : List Row) (o : Row) (a : Allowed initi
   begin-turn e =
       let h = or-parts (eqb (o .code) post && posted held (o .item)) _ (a .in-turn) .1 in
       let g =
-          unless (o .code) begin (busy held (o .thread) || not (waits held (o .thread) (o .item)))
-          (or-parts (eqb (o .code) begin && (busy held (o .thread) || not (waits held (o .thread) (o .item)))) _ h .0) e
-        in
+      unless (o .code) begin (busy held (o .thread) || not (waits held (o .thread) (o .item)))
+      (or-parts (eqb (o .code) begin && (busy held (o .thread) || not (waits held (o .thread) (o .item)))) _ h .0) e
+      in
       let (b, w) = or-parts (busy held (o .thread)) _ g in
       (b, not-false _ w)
 
@@ -244,9 +249,9 @@ module _ (initial : ℕ → Bool) (held : List Row) (fair : Fair-tables initial 
 
   -- a task that begins was posted before, to the thread that begins it
   pub begin-posted :
-    (j : ℕ)
-    → code held j ≡ begin
-    → (a : ℕ) × (a < j) × Posts held a (item held j) × (row held a .target ≡ thread held j)
+      (j : ℕ)
+      → code held j ≡ begin
+      → (a : ℕ) × (a < j) × Posts held a (item held j) × (row held a .target ≡ thread held j)
   begin-posted j e =
       let l = coded-held held j _ e in
       let w = begin-turn initial (take j held) (row held j) (allowed-at j l) e .1 in
@@ -290,14 +295,14 @@ module _ (initial : ℕ → Bool) (held : List Row) (fair : Fair-tables initial 
 
   -- a thread begins no task while it has one
   no-begin-within :
-    (i p a b : ℕ)
-    → Does held a begin (thread held i) p
-    → ((e : ℕ) → a ≤ e → e < i → Does held e end (thread held i) p → ⊥)
-    → b ≤ i
-    → code held b ≡ begin
-    → thread held b ≡ thread held i
-    → a < b
-    → ⊥
+      (i p a b : ℕ)
+      → Does held a begin (thread held i) p
+      → ((e : ℕ) → a ≤ e → e < i → Does held e end (thread held i) p → ⊥)
+      → b ≤ i
+      → code held b ≡ begin
+      → thread held b ≡ thread held i
+      → a < b
+      → ⊥
   no-begin-within i p a b (c, t, f) lasts bi d u l =
       let lb = coded-held held b _ d in
       let la : a < length held = omega arith in

@@ -2,11 +2,11 @@
 use mathlib.Core.Path.{_≡_, refl, sym, _∙_, ap}
 use mathlib.Core.Bool.{Bool, true, false, not, _&&_, _||_}
 use mathlib.Core.List.{List, [], _∷_, _++_}
-use Prim.Native.Nat.{ℕ, zero, suc, _<_, _≤_}
+use Prim.Native.Nat.{ℕ, zero, suc, _<_}
 use native.Mathlib.Omega.{arith}
 use borrow.Author.Tests.{clash}
 use Rattle.std.proofs.shelf.Tests.{cases-eq}
-use mathlib.Core.Logic.{⊎-elim, _⊎_, inl, inr}
+use mathlib.Core.Logic.{⊎-elim}
 use Rattle.recording.specs.declared.row.Row.{Row}
 use Rattle.rules.specs.Acceptance.{some, lasting, some-below}
 
@@ -37,8 +37,8 @@ push-cases true false c d false = refl
 push-cases false b c d s = refl
 
 pub lasting-push :
-  (start stop : Row → Bool) (held : List Row) (o : Row)
-  → lasting start stop (held ++ o ∷ []) ≡ ((lasting start stop held && not (stop o)) || start o)
+    (start stop : Row → Bool) (held : List Row) (o : Row)
+    → lasting start stop (held ++ o ∷ []) ≡ ((lasting start stop held && not (stop o)) || start o)
 unfolding lasting some
 lasting-push start stop [] o = one (start o)
   where
@@ -74,8 +74,8 @@ some-below-found zero p h = absurd (clash h)
 some-below-found (suc n) p h = go (p n) refl h (some-below-found n p)
   where
     go :
-      (b : Bool) → p n ≡ b → (b || some-below n p) ≡ true
-      → (some-below n p ≡ true → (k : ℕ) × (k < n) × (p k ≡ true))
-      → (k : ℕ) × (k < suc n) × (p k ≡ true)
+        (b : Bool) → p n ≡ b → (b || some-below n p) ≡ true
+        → (some-below n p ≡ true → (k : ℕ) × (k < n) × (p k ≡ true))
+        → (k : ℕ) × (k < suc n) × (p k ≡ true)
     go true e h lower = (n, omega arith, e)
     go false e h lower = let r = lower h in (r .0, (let l = r .1 in omega arith), r .2)

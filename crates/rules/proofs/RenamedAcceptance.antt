@@ -2,7 +2,6 @@
 use mathlib.Core.Path.{_≡_, refl, sym, _∙_, ap, ap₂}
 use mathlib.Core.Bool.{Bool, true, false, not, cond, _&&_, _||_}
 use mathlib.Core.List.{List, [], _∷_, map}
-use mathlib.Core.Logic.{_↔_}
 use Prim.Native.Nat.{ℕ, zero, suc, _<_}
 use native.Mathlib.Omega.{arith}
 use lib.Dec.{eqb, leb}
@@ -11,9 +10,7 @@ use borrow.Author.Tests.{eqb-true, eq-eqb}
 use Rattle.std.proofs.shelf.Lists.{getD-map}
 use Rattle.std.proofs.shelf.Tests.{cond-true, cond-false}
 use Rattle.std.proofs.shelf.Ways.{same-from-decides, decides-eqb}
-use Rattle.recording.specs.Codes.{
-  threadinit, threadexit, fork, join, attachQ, loopOnQ, post, begin, end, acquire, release, has-target, has-task,
-  has-lock }
+use Rattle.recording.specs.Codes.{threadinit, threadexit, fork, join, attachQ, loopOnQ, post, begin, end, acquire, release, has-target, has-task, has-lock}
 use Rattle.recording.specs.Faults.{first}
 use Rattle.recording.specs.Posts.{marksIn}
 use Rattle.recording.specs.declared.row.Row.{Row}
@@ -21,19 +18,15 @@ use Rattle.happens_before.specs.Trace.{blank, row, item, marks}
 use Rattle.happens_before.specs.Order.{Precedence}
 use Rattle.happens_before.specs.Renaming.{Permutation, Renaming, renamed}
 use Rattle.happens_before.specs.Theorems.{In-range, All-in-range}
-use Rattle.rules.specs.declared.faults.StateFault.the-variants.{
-  Full, ThreadNotReady, WrongTarget, WrongQueue, WrongLock, OutOfTurn, NotAdmitted }
-use Rattle.rules.specs.Acceptance.{
-  Setting, some, lasting, some-below, does, doesOn, isOn, forks, postsTo, started, finished, running, known, created,
-  unknown, queue, loops, current, busy, posted, begun, waits, holds, held-by-another, overtakes, thread-not-ready,
-  wrong-target, wrong-queue, wrong-lock, out-of-turn, not-admitted, refusal }
+use Rattle.rules.specs.declared.faults.StateFault.the-variants.{Full, ThreadNotReady, WrongTarget, WrongQueue, WrongLock, OutOfTurn, NotAdmitted}
+use Rattle.rules.specs.Acceptance.{Setting, some, lasting, some-below, does, doesOn, isOn, forks, postsTo, started, finished, running, known, unknown, queue, current, busy, posted, waits, holds, held-by-another, overtakes, thread-not-ready, wrong-target, wrong-queue, wrong-lock, out-of-turn, not-admitted, refusal}
 use Rattle.rules.specs.Runs.{Renamed-setting}
 use Rattle.rules.proofs.Pushes.{some-below-true, some-below-found}
 
 -- ---- Numbers below a bound, and a permutation of them
 
 pub some-below-same :
-  (n : ℕ) (p q : ℕ → Bool) → ((k : ℕ) → k < n → p k ≡ q k) → some-below n p ≡ some-below n q
+    (n : ℕ) (p q : ℕ → Bool) → ((k : ℕ) → k < n → p k ≡ q k) → some-below n p ≡ some-below n q
 unfolding some-below
 some-below-same zero p q h = refl
 some-below-same (suc n) p q h = λ t. h n (omega arith) t || some-below-same n p q (λ k l. h k (omega arith)) t
@@ -46,7 +39,7 @@ module _ {n : ℕ} (π : Permutation n) where
       (decides-eqb a b)
 
   pub some-below-to :
-    (p q : ℕ → Bool) → ((k : ℕ) → k < n → q (π .to k) ≡ p k) → some-below n q ≡ some-below n p
+      (p q : ℕ → Bool) → ((k : ℕ) → k < n → q (π .to k) ≡ p k) → some-below n q ≡ some-below n p
   some-below-to p q h =
       same-from-decides (some-below n q) (some-below n p) (from, to) (λ e. e, λ e. e)
     where
@@ -68,13 +61,9 @@ same-if true x y h = h refl
 same-if false x y h = refl
 
 same-under :
-  (b x y v w : Bool) → (b ≡ true → x ≡ y) → (b ≡ true → v ≡ w) → ((b && x) && v) ≡ ((b && y) && w)
+    (b x y v w : Bool) → (b ≡ true → x ≡ y) → (b ≡ true → v ≡ w) → ((b && x) && v) ≡ ((b && y) && w)
 same-under true x y v w h g = λ t. h refl t && g refl t
 same-under false x y v w h g = refl
-
--- of the operation with code c
-same-at : (a c : ℕ) (x y : Bool) → (a ≡ c → x ≡ y) → (eqb a c && x) ≡ (eqb a c && y)
-same-at a c x y h = same-if (eqb a c) x y (λ e. h (eqb-true a c e))
 
 -- ---- One operation
 
@@ -92,7 +81,7 @@ module _ (m : Renaming) (x : Row) (r : In-range x) where
   thread-is t l = eqb-to (m .threads) (x .thread) t (r .0) l
 
   target-is :
-    (t : ℕ) → t < 64 → has-target (x .code) ≡ true → eqb (renamed m x .target) (m .threads .to t) ≡ eqb (x .target) t
+      (t : ℕ) → t < 64 → has-target (x .code) ≡ true → eqb (renamed m x .target) (m .threads .to t) ≡ eqb (x .target) t
   target-is t l h =
       ap (λ u. eqb u (m .threads .to t)) (target-to h) ∙ eqb-to (m .threads) (x .target) t (r .1 h) l
 
@@ -100,11 +89,11 @@ module _ (m : Renaming) (x : Row) (r : In-range x) where
   task-is p l h = ap (λ u. eqb u (m .tasks .to p)) (task-to h) ∙ eqb-to (m .tasks) (x .item) p (r .2 h) l
 
   lock-is :
-    (k : ℕ)
-    → k < 64
-    → has-task (x .code) ≡ false
-    → has-lock (x .code) ≡ true
-    → eqb (renamed m x .item) (m .locks .to k) ≡ eqb (x .item) k
+      (k : ℕ)
+      → k < 64
+      → has-task (x .code) ≡ false
+      → has-lock (x .code) ≡ true
+      → eqb (renamed m x .item) (m .locks .to k) ≡ eqb (x .item) k
   lock-is k l h g = ap (λ u. eqb u (m .locks .to k)) (lock-to h g) ∙ eqb-to (m .locks) (x .item) k (r .3 g) l
 
   -- the test of a code tells which fields there are
@@ -116,30 +105,30 @@ module _ (m : Renaming) (x : Row) (r : In-range x) where
     does-is c = ap (λ b. eqb (x .code) c && b) (thread-is t l)
 
     aims-is :
-      (c : ℕ)
-      → has-target c ≡ true
-      → (eqb (x .code) c && eqb (renamed m x .target) (m .threads .to t)) ≡ (eqb (x .code) c && eqb (x .target) t)
+        (c : ℕ)
+        → has-target c ≡ true
+        → (eqb (x .code) c && eqb (renamed m x .target) (m .threads .to t)) ≡ (eqb (x .code) c && eqb (x .target) t)
     aims-is c h = same-if (eqb (x .code) c) _ _ (λ e. target-is t l (by has-target c h e))
 
     does-task-is :
-      (c p : ℕ) → p < 512 → has-task c ≡ true → doesOn c (m .threads .to t) (m .tasks .to p) (renamed m x) ≡ doesOn c t p x
+        (c p : ℕ) → p < 512 → has-task c ≡ true → doesOn c (m .threads .to t) (m .tasks .to p) (renamed m x) ≡ doesOn c t p x
     does-task-is c p u h =
         same-under (eqb (x .code) c) _ _ _ _ (λ e. thread-is t l) (λ e. task-is p u (by has-task c h e))
 
     does-lock-is :
-      (c k : ℕ)
-      → k < 64
-      → has-task c ≡ false
-      → has-lock c ≡ true
-      → doesOn c (m .threads .to t) (m .locks .to k) (renamed m x) ≡ doesOn c t k x
+        (c k : ℕ)
+        → k < 64
+        → has-task c ≡ false
+        → has-lock c ≡ true
+        → doesOn c (m .threads .to t) (m .locks .to k) (renamed m x) ≡ doesOn c t k x
     does-lock-is c k u h g =
         same-under (eqb (x .code) c) _ _ _ _ (λ e. thread-is t l) (λ e. lock-is k u (by has-task c h e) (by has-lock c g e))
 
     posts-is :
-      (p : ℕ)
-      → p < 512
-      → (isOn post (m .tasks .to p) (renamed m x) && eqb (renamed m x .target) (m .threads .to t))
-      ≡ (isOn post p x && eqb (x .target) t)
+        (p : ℕ)
+        → p < 512
+        → (isOn post (m .tasks .to p) (renamed m x) && eqb (renamed m x .target) (m .threads .to t))
+        ≡ (isOn post p x && eqb (x .target) t)
     posts-is p u =
         same-under (eqb (x .code) post) _ _ _ _
         (λ e. task-is p u (by has-task post refl e))
@@ -156,21 +145,21 @@ module _ (m : Renaming) where
   Moves p q = (x : Row) → In-range x → q (renamed m x) ≡ p x
 
   some-moved :
-    (p q : Row → Bool) (held : List Row)
-    → All-in-range held
-    → Moves p q
-    → some q (map (renamed m) held) ≡ some p held
+      (p q : Row → Bool) (held : List Row)
+      → All-in-range held
+      → Moves p q
+      → some q (map (renamed m) held) ≡ some p held
   unfolding some
   some-moved p q [] ranged h = refl
   some-moved p q (x ∷ held) ranged h =
       λ t. h x (ranged 0 (omega arith)) t || some-moved p q held (λ i l. ranged (suc i) (omega arith)) h t
 
   lasting-moved :
-    (p q stop stop′ : Row → Bool) (held : List Row)
-    → All-in-range held
-    → Moves p q
-    → Moves stop stop′
-    → lasting q stop′ (map (renamed m) held) ≡ lasting p stop held
+      (p q stop stop′ : Row → Bool) (held : List Row)
+      → All-in-range held
+      → Moves p q
+      → Moves stop stop′
+      → lasting q stop′ (map (renamed m) held) ≡ lasting p stop held
   unfolding lasting
   lasting-moved p q stop stop′ [] ranged h g = refl
   lasting-moved p q stop stop′ (x ∷ held) ranged h g =
@@ -226,7 +215,7 @@ module _ (m : Renaming) (held : List Row) (ranged : All-in-range held) where
       (λ x r. λ i. does-lock-is m x r t l release k u refl refl i || does-is m x r t l threadexit i)
 
   held-by-another-moved :
-    (t k : ℕ) → t < 64 → k < 64 → held-by-another new (thread-to t) (m .locks .to k) ≡ held-by-another held t k
+      (t k : ℕ) → t < 64 → k < 64 → held-by-another new (thread-to t) (m .locks .to k) ≡ held-by-another held t k
   held-by-another-moved t k l u =
       some-below-to (m .threads) (λ v. not (eqb v t) && holds held v k)
       (λ v. not (eqb v (thread-to t)) && holds new v (m .locks .to k))
@@ -239,36 +228,36 @@ module _ (m : Renaming) (held : List Row) (ranged : All-in-range held) where
 
   module _ (D : Precedence) (t : ℕ) (l : t < 64) where
     ahead-moved :
-      (a b : ℕ)
-      → a < length held
-      → b < length held
-      → (postsTo (thread-to t) (row new a) && (waits new (thread-to t) (item new a) && D (marks new a) (marks new b)))
-      ≡ (postsTo t (row held a) && (waits held t (item held a) && D (marks held a) (marks held b)))
+        (a b : ℕ)
+        → a < length held
+        → b < length held
+        → (postsTo (thread-to t) (row new a) && (waits new (thread-to t) (item new a) && D (marks new a) (marks new b)))
+        ≡ (postsTo t (row held a) && (waits held t (item held a) && D (marks held a) (marks held b)))
     ahead-moved a b u v =
         ap₂
         (λ (x y : Row). postsTo (thread-to t) x && (waits new (thread-to t) (x .item) && D (marksIn x) (marksIn y)))
         (row-moved a u) (row-moved b v)
         ∙ same-under (eqb (row held a .code) post) _ _ _ _
-          (λ e. target-is m (row held a) (ranged a u) t l (by m (row held a) (ranged a u) has-target post refl e))
-          (λ e.
-          let h = by m (row held a) (ranged a u) has-task post refl e in
-          ap (λ w. w && D (marks held a) (marks held b))
-          (ap (waits new (thread-to t)) (task-to m (row held a) (ranged a u) h)
-          ∙ waits-moved t (item held a) l (ranged a u .2 h)))
+        (λ e. target-is m (row held a) (ranged a u) t l (by m (row held a) (ranged a u) has-target post refl e))
+        (λ e.
+        let h = by m (row held a) (ranged a u) has-task post refl e in
+        ap (λ w. w && D (marks held a) (marks held b))
+        (ap (waits new (thread-to t)) (task-to m (row held a) (ranged a u) h)
+        ∙ waits-moved t (item held a) l (ranged a u .2 h)))
 
     overtakes-moved : (p : ℕ) → p < 512 → overtakes D new (thread-to t) (m .tasks .to p) ≡ overtakes D held t p
     overtakes-moved p w =
         ap (λ n. some-below n (ahead new (thread-to t) (m .tasks .to p))) (length-map held (renamed m))
         ∙ some-below-same (length held) (ahead new (thread-to t) (m .tasks .to p)) (ahead held t p)
-          (λ b v i.
-          (ap (isOn post (m .tasks .to p)) (row-moved b v) ∙ on-is m (row held b) (ranged b v) post p w refl) i
-          && some-below-same b _ _ (λ a u. ahead-moved a b (omega arith) v) i)
+        (λ b v i.
+        (ap (isOn post (m .tasks .to p)) (row-moved b v) ∙ on-is m (row held b) (ranged b v) post p w refl) i
+        && some-below-same b _ _ (λ a u. ahead-moved a b (omega arith) v) i)
       where
         ahead : List Row → ℕ → ℕ → ℕ → Bool
         ahead held t p b =
             isOn post p (row held b)
             && some-below b
-              (λ a. postsTo t (row held a) && (waits held t (item held a) && D (marks held a) (marks held b)))
+            (λ a. postsTo t (row held a) && (waits held t (item held a) && D (marks held a) (marks held b)))
 
 -- ---- Refusals
 
@@ -283,9 +272,9 @@ module _
     known-moved t l = λ i. same .initial t l i || forked m held ranged t l i
 
     seen-moved :
-      (t : ℕ)
-      → t < 64
-      → (started after (m .threads .to t) || finished after (m .threads .to t)) ≡ (started held t || finished held t)
+        (t : ℕ)
+        → t < 64
+        → (started after (m .threads .to t) || finished after (m .threads .to t)) ≡ (started held t || finished held t)
     seen-moved t l = λ i. did m held ranged threadinit t l i || did m held ranged threadexit t l i
 
     at-thread : (c : ℕ) → some (does c (m .threads .to (o .thread))) after ≡ some (does c (o .thread)) held
@@ -300,10 +289,10 @@ module _
 
     -- of the target, where the operation has one
     at-target :
-      (f g : ℕ → Bool) (c : ℕ)
-      → has-target c ≡ true
-      → ((t : ℕ) → t < 64 → f (m .threads .to t) ≡ g t)
-      → (eqb (o .code) c && f (renamed m o .target)) ≡ (eqb (o .code) c && g (o .target))
+        (f g : ℕ → Bool) (c : ℕ)
+        → has-target c ≡ true
+        → ((t : ℕ) → t < 64 → f (m .threads .to t) ≡ g t)
+        → (eqb (o .code) c && f (renamed m o .target)) ≡ (eqb (o .code) c && g (o .target))
     at-target f g c h moved =
         same-if (eqb (o .code) c) _ _
         (λ e. let k = by m o r has-target c h e in ap f (target-to m o r k) ∙ moved (o .target) (r .1 k))
@@ -326,20 +315,20 @@ module _
         || (eqb (o .code) begin && not (at-thread loopOnQ i)))
 
     at-task :
-      (f g : ℕ → Bool) (c : ℕ)
-      → has-task c ≡ true
-      → ((p : ℕ) → p < 512 → f (m .tasks .to p) ≡ g p)
-      → (eqb (o .code) c && f (renamed m o .item)) ≡ (eqb (o .code) c && g (o .item))
+        (f g : ℕ → Bool) (c : ℕ)
+        → has-task c ≡ true
+        → ((p : ℕ) → p < 512 → f (m .tasks .to p) ≡ g p)
+        → (eqb (o .code) c && f (renamed m o .item)) ≡ (eqb (o .code) c && g (o .item))
     at-task f g c h moved =
         same-if (eqb (o .code) c) _ _
         (λ e. let k = by m o r has-task c h e in ap f (task-to m o r k) ∙ moved (o .item) (r .2 k))
 
     at-lock :
-      (f g : ℕ → Bool) (c : ℕ)
-      → has-task c ≡ false
-      → has-lock c ≡ true
-      → ((k : ℕ) → k < 64 → f (m .locks .to k) ≡ g k)
-      → (eqb (o .code) c && f (renamed m o .item)) ≡ (eqb (o .code) c && g (o .item))
+        (f g : ℕ → Bool) (c : ℕ)
+        → has-task c ≡ false
+        → has-lock c ≡ true
+        → ((k : ℕ) → k < 64 → f (m .locks .to k) ≡ g k)
+        → (eqb (o .code) c && f (renamed m o .item)) ≡ (eqb (o .code) c && g (o .item))
     at-lock f g c n h moved =
         same-if (eqb (o .code) c) _ _
         (λ e.
@@ -355,12 +344,12 @@ module _
         (λ k u i. not (holds-moved m held ranged (o .thread) k (r .0) u i)) i
 
     turn-moved :
-      (p : ℕ)
-      → p < 512
-      → (busy after (m .threads .to (o .thread))
-      || (not (waits after (m .threads .to (o .thread)) (m .tasks .to p))
-      || overtakes (s′ .precedence) after (m .threads .to (o .thread)) (m .tasks .to p)))
-      ≡ (busy held (o .thread) || (not (waits held (o .thread) p) || overtakes (s .precedence) held (o .thread) p))
+        (p : ℕ)
+        → p < 512
+        → (busy after (m .threads .to (o .thread))
+        || (not (waits after (m .threads .to (o .thread)) (m .tasks .to p))
+        || overtakes (s′ .precedence) after (m .threads .to (o .thread)) (m .tasks .to p)))
+        ≡ (busy held (o .thread) || (not (waits held (o .thread) p) || overtakes (s .precedence) held (o .thread) p))
     turn-moved p u =
         λ i.
         busy-moved m held ranged (o .thread) (r .0) i

@@ -1,13 +1,12 @@
 -- A renaming changes no answer of a run.
-use mathlib.Core.Path.{_≡_, refl, sym, _∙_, subst, subst₂, ap}
+use mathlib.Core.Path.{_≡_, refl, sym, _∙_, subst, subst₂}
 use mathlib.Core.Bool.{true}
 use mathlib.Core.List.{List, [], _∷_, _++_, map}
-use mathlib.Core.Logic.{_⊎_, _↔_}
+use mathlib.Core.Logic.{_⊎_}
 use Prim.Native.Nat.{ℕ, _<_, _≤_, min, max}
 use native.Mathlib.Omega.{arith}
-use lib.ListN.{length, take, drop, length-map}
+use lib.ListN.{length, length-map}
 use Rattle.std.specs.shelf.Lists.{All}
-use Rattle.std.specs.declared.option.Option.the-variants.{None}
 use Rattle.std.proofs.shelf.Lists.{map-push, take-map, take-at}
 use Rattle.recording.specs.Lawful.{lawful}
 use Rattle.recording.specs.declared.row.Row.{Row}
@@ -17,18 +16,12 @@ use Rattle.happens_before.specs.Theorems.{Posted-first, All-in-range, Same-belo
 use Rattle.happens_before.proofs.Agree.{agree-sym}
 use Rattle.happens_before.proofs.Races.{same-below}
 use Rattle.happens_before.proofs.Renamed.{agree-renamed, renamed-before}
-use Rattle.recording.proofs.LawfulRows.{thread-fits, target-fits, task-fits, lock-fits, item-fits}
 use Rattle.rules.specs.declared.order.Order.{Order}
 use Rattle.rules.specs.declared.race.RaceRow.{RaceRow}
 use Rattle.rules.specs.Acceptance.{Setting, refusal}
-use Rattle.rules.specs.Answers.{
-  Count, Ordered, same, before, after, unordered, Classed, no-race, race, In, Race-list }
+use Rattle.rules.specs.Answers.{Count, Ordered, same, before, after, unordered, Classed, no-race, race, Race-list}
 use Rattle.rules.specs.Fair.{Fair}
-use Rattle.rules.specs.Runs.{
-  Call, add, cut, order, class, list, Answer, added, cut-to, ordered, classed, Step, adds, refuses, cuts, cuts-not, orders, orders-not, classes,
-  classes-not, lists, lists-not, Run, done, next, Renamed-call, add-renamed, cut-alike, order-alike, class-alike,
-  list-alike, Same-answer, equal, same-races, same-need, Pairwise, none, more, Renamed-setting, Lawful-call,
-  Same-renamed }
+use Rattle.rules.specs.Runs.{Call, add, cut, Answer, added, cut-to, ordered, classed, Step, adds, refuses, cuts, cuts-not, orders, orders-not, classes, classes-not, lists, lists-not, Run, done, next, Renamed-call, add-renamed, cut-alike, order-alike, class-alike, list-alike, Same-answer, equal, same-races, same-need, Pairwise, none, more, Renamed-setting, Lawful-call, Same-renamed}
 use Rattle.rules.proofs.Determined.{step-one}
 use Rattle.rules.proofs.Fair.{in-range, all-in-range, fair-tables, posted-first, fair-none, fair-push, fair-cut}
 use Rattle.rules.proofs.RenamedAcceptance.{refusal-moved}
@@ -66,12 +59,12 @@ module _ {D : Precedence} {n : ℕ} {xs ys : List Row} (g : Same-below D n xs ys
 
 -- what is held stays fair
 pub fair-after :
-  (s : Setting) (held : List Row)
-  → Fair s held
-  → {c : Call} {a : Answer} {left : List Row}
-  → Lawful-call c
-  → Step s held c a left
-  → Fair s left
+    (s : Setting) (held : List Row)
+    → Fair s held
+    → {c : Call} {a : Answer} {left : List Row}
+    → Lawful-call c
+    → Step s held c a left
+    → Fair s left
 fair-after s held fair w (adds e n) = fair-push s held _ fair w e
 fair-after s held fair w (refuses e) = fair
 fair-after s held fair w (cuts l) = fair-cut s _ held fair
@@ -108,7 +101,7 @@ module _ (m : Renaming) (s s′ : Setting) (like : Renamed-setting m s s′) whe
     refusal-same o w = refusal-moved m s s′ like held ranged o (in-range o w)
 
     races-moved :
-      (rows : List RaceRow) → Race-list (s .precedence) held rows → Race-list (s′ .precedence) (new held) rows
+        (rows : List RaceRow) → Race-list (s .precedence) held rows → Race-list (s′ .precedence) (new held) rows
     races-moved rows r =
         let e = new-length held in
         turned (λ D. Race-list D (new held) rows) (list-same alike rows (omega arith) (omega arith) r)
@@ -118,11 +111,11 @@ module _ (m : Renaming) (s s′ : Setting) (like : Renamed-setting m s s′) whe
   Counts D held k c = Count k (λ i. IsBefore D held i k) c
 
   count-moved :
-    (held : List Row) (o : Row)
-    → Fair s (held ++ o ∷ [])
-    → (c : ℕ)
-    → Counts (s .precedence) (held ++ o ∷ []) (length held) c
-    → Counts (s′ .precedence) (new held ++ renamed m o ∷ []) (length (new held)) c
+      (held : List Row) (o : Row)
+      → Fair s (held ++ o ∷ [])
+      → (c : ℕ)
+      → Counts (s .precedence) (held ++ o ∷ []) (length held) c
+      → Counts (s′ .precedence) (new held ++ renamed m o ∷ []) (length (new held)) c
   count-moved held o fair c n =
       turned (λ D. Counts D (new held ++ renamed m o ∷ []) (length (new held)) c)
       (subst₂ (λ k t. Counts (s .precedence) t k c) (sym (new-length held)) (map-push (renamed m) held o) counts)
@@ -144,17 +137,17 @@ module _ (m : Renaming) (s s′ : Setting) (like : Renamed-setting m s s′) whe
   Moved held c a left = (b : Answer) × Step s′ (new held) c b (new left) × Same-answer a b
 
   step-moved :
-    (held : List Row)
-    → Fair s held
-    → {c c′ : Call} {a : Answer} {left : List Row}
-    → Lawful-call c
-    → Step s held c a left
-    → Renamed-call m c c′
-    → Moved held c′ a left
+      (held : List Row)
+      → Fair s held
+      → {c c′ : Call} {a : Answer} {left : List Row}
+      → Lawful-call c
+      → Step s held c a left
+      → Renamed-call m c c′
+      → Moved held c′ a left
   step-moved held fair w (adds {o = o} {c = c} e n) add-renamed = (
     added (length (new held)) c,
     subst (Step s′ (new held) (add (renamed m o)) (added (length (new held)) c)) (sym (map-push (renamed m) held o))
-      (adds (refusal-same held fair o w ∙ e) (count-moved held o (fair-push s held o fair w e) c n)),
+        (adds (refusal-same held fair o w ∙ e) (count-moved held o (fair-push s held o fair w e) c n)),
     subst (λ k. Same-answer (added (length held) c) (added k c)) (sym (new-length held)) equal,
   )
   step-moved held fair w (refuses {o = o} e) add-renamed = (_, refuses (refusal-same held fair o w ∙ e), equal)
@@ -169,7 +162,7 @@ module _ (m : Renaming) (s s′ : Setting) (like : Renamed-setting m s s′) whe
       let e = new-length held in (
         ordered v,
         orders (omega arith) (omega arith)
-          (turned (λ D. Ordered D (new held) i j v) (ordered-same (alike held fair) l u h)),
+            (turned (λ D. Ordered D (new held) i j v) (ordered-same (alike held fair) l u h)),
         equal,
       )
   step-moved held fair w (orders-not {i = i} {j = j} n) order-alike =
@@ -178,7 +171,7 @@ module _ (m : Renaming) (s s′ : Setting) (like : Renamed-setting m s s′) whe
       let e = new-length held in (
         classed c,
         classes (omega arith) (omega arith)
-          (turned (λ D. Classed D (new held) i j c) (classed-same (alike held fair) l u h)),
+            (turned (λ D. Classed D (new held) i j c) (classed-same (alike held fair) l u h)),
         equal,
       )
   step-moved held fair w (classes-not {i = i} {j = j} n) class-alike =
@@ -194,13 +187,13 @@ module _ (m : Renaming) (s s′ : Setting) (like : Renamed-setting m s s′) whe
   -- ---- Runs
 
   run-moved :
-    {held : List Row} {calls calls′ : List Call} {answers answers′ : List Answer} {left left′ : List Row}
-    → Fair s held
-    → All Lawful-call calls
-    → Run s held calls answers left
-    → Pairwise (Renamed-call m) calls calls′
-    → Run s′ (new held) calls′ answers′ left′
-    → Pairwise Same-answer answers answers′
+      {held : List Row} {calls calls′ : List Call} {answers answers′ : List Answer} {left left′ : List Row}
+      → Fair s held
+      → All Lawful-call calls
+      → Run s held calls answers left
+      → Pairwise (Renamed-call m) calls calls′
+      → Run s′ (new held) calls′ answers′ left′
+      → Pairwise Same-answer answers answers′
   run-moved fair w done none done = none
   run-moved fair w (next {held = held} {a = a} x xs) (more c cs) (next {after = left} {calls = calls} {answers = answers} y ys) =
       let (b, z, e) = step-moved held fair (w .0) x c in
@@ -209,9 +202,9 @@ module _ (m : Renaming) (s s′ : Setting) (like : Renamed-setting m s s′) whe
       (run-moved (fair-after s held fair (w .0) x) (w .1) xs cs (subst (λ t. Run s′ t calls answers left) (sym g) ys))
 
 pub renamed-runs :
-  (s : Setting) (calls : List Call) (answers : List Answer) (left : List Row)
-  → All Lawful-call calls
-  → Run s [] calls answers left
-  → Same-renamed s calls answers
+    (s : Setting) (calls : List Call) (answers : List Answer) (left : List Row)
+    → All Lawful-call calls
+    → Run s [] calls answers left
+    → Same-renamed s calls answers
 renamed-runs s calls answers left w run m s′ like calls′ cs answers′ left′ run′ =
     run-moved m s s′ like (fair-none s) w run cs run′

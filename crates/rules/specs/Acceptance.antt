@@ -6,7 +6,18 @@ use lib.Dec.{eqb, leb}
 use lib.ListN.{length, getD}
 use Rattle.std.specs.declared.option.Option.{Option}
 use Rattle.recording.specs.Codes.{
-  threadinit, threadexit, fork, join, attachQ, loopOnQ, post, begin, end, acquire, release }
+  threadinit,
+  threadexit,
+  fork,
+  join,
+  attachQ,
+  loopOnQ,
+  post,
+  begin,
+  end,
+  acquire,
+  release,
+}
 use Rattle.recording.specs.Faults.{first}
 use Rattle.recording.specs.Posts.{marksIn}
 use Rattle.recording.specs.declared.marks.Marks.{Marks}
@@ -14,7 +25,14 @@ use Rattle.recording.specs.declared.row.Row.{Row}
 use Rattle.happens_before.specs.Trace.{row, item, marks}
 use Rattle.rules.specs.declared.faults.StateFault.{StateFault}
 use Rattle.rules.specs.declared.faults.StateFault.the-variants.{
-  Full, ThreadNotReady, WrongTarget, WrongQueue, WrongLock, OutOfTurn, NotAdmitted }
+  Full,
+  ThreadNotReady,
+  WrongTarget,
+  WrongQueue,
+  WrongLock,
+  OutOfTurn,
+  NotAdmitted,
+}
 
 -- what an examination is opened with
 pub record Setting : Type 0 where
@@ -123,11 +141,11 @@ abbrev pub overtakes : (Marks → Marks → Bool) → List Row → ℕ → ℕ �
 overtakes precedence held t p =
     some-below (length held)
     (λ b.
-      isOn post p (row held b)
-      && some-below b
-        (λ a.
-          postsTo t (row held a)
-          && (waits held t (item held a) && precedence (marks held a) (marks held b))))
+    isOn post p (row held b)
+    && some-below b
+    (λ a.
+    postsTo t (row held a)
+    && (waits held t (item held a) && precedence (marks held a) (marks held b))))
 
 -- ---- What an operation is refused for: the first that applies
 

@@ -25,7 +25,7 @@ pub data Ordered (D : Precedence) (held : List Row) (i j : ℕ) : Order → Type
   before : IsBefore D held i j → Ordered D held i j Before
   after : IsBefore D held j i → Ordered D held i j After
   unordered :
-    (i ≡ j → ⊥) → (IsBefore D held i j → ⊥) → (IsBefore D held j i → ⊥) → Ordered D held i j Unordered
+      (i ≡ j → ⊥) → (IsBefore D held i j → ⊥) → (IsBefore D held j i → ⊥) → Ordered D held i j Unordered
 
 -- the class of two positions, in either order, by its number; 0 for no race
 pub data Classed (D : Precedence) (held : List Row) (i j : ℕ) : ℕ → Type 0 where

@@ -5,7 +5,14 @@ use Rattle.std.specs.declared.option.Option.{Option}
 use Rattle.std.specs.declared.option.Option.the-variants.{Some, None}
 use Rattle.rules.specs.declared.faults.StateFault.{StateFault}
 use Rattle.rules.specs.declared.faults.StateFault.the-variants.{
-  Full, ThreadNotReady, WrongTarget, WrongQueue, WrongLock, OutOfTurn, NotAdmitted }
+  Full,
+  ThreadNotReady,
+  WrongTarget,
+  WrongQueue,
+  WrongLock,
+  OutOfTurn,
+  NotAdmitted,
+}
 use Rattle.rules.specs.declared.race.RaceClass.{RaceClass}
 use Rattle.rules.specs.declared.race.RaceClass.the-variants.{MultiThreaded, CoEnabled, Delayed, CrossPosted, Unknown}
 use Rattle.rules.specs.declared.race.RaceRow.{RaceRow}

@@ -40,46 +40,46 @@ pub data Answer : Type 0 where
 -- one call: what is held, the call, its answer, what is held after
 pub data Step (s : Setting) (held : List Row) : Call → Answer → List Row → Type 0 where
   adds :
-    {o : Row} {c : ℕ}
-    → refusal s held o ≡ None
-    → Count (length held) (λ i. Before (s .precedence) (held ++ o ∷ []) i (length held)) c
-    → Step s held (add o) (added (length held) c) (held ++ o ∷ [])
+      {o : Row} {c : ℕ}
+      → refusal s held o ≡ None
+      → Count (length held) (λ i. Before (s .precedence) (held ++ o ∷ []) i (length held)) c
+      → Step s held (add o) (added (length held) c) (held ++ o ∷ [])
   refuses : {o : Row} {f : StateFault} → refusal s held o ≡ Some f → Step s held (add o) (refused (stateNumber f)) held
   cuts : {n : ℕ} → n ≤ length held → Step s held (cut n) (cut-to n) (take n held)
   cuts-not : {n : ℕ} → length held < n → Step s held (cut n) (refused not-held) held
   orders :
-    {i j : ℕ} {w : Order}
-    → i < length held
-    → j < length held
-    → Ordered (s .precedence) held i j w
-    → Step s held (order i j) (ordered w) held
+      {i j : ℕ} {w : Order}
+      → i < length held
+      → j < length held
+      → Ordered (s .precedence) held i j w
+      → Step s held (order i j) (ordered w) held
   orders-not : {i j : ℕ} → (length held ≤ i) ⊎ (length held ≤ j) → Step s held (order i j) (refused not-held) held
   classes :
-    {i j c : ℕ}
-    → i < length held
-    → j < length held
-    → Classed (s .precedence) held i j c
-    → Step s held (class i j) (classed c) held
+      {i j c : ℕ}
+      → i < length held
+      → j < length held
+      → Classed (s .precedence) held i j c
+      → Step s held (class i j) (classed c) held
   classes-not : {i j : ℕ} → (length held ≤ i) ⊎ (length held ≤ j) → Step s held (class i j) (refused not-held) held
   lists :
-    {places races : List RaceRow}
-    → Race-list (s .precedence) held races
-    → length races ≤ length places
-    → Step s held (list places) (listed (length races) (races ++ drop (length races) places)) held
+      {places races : List RaceRow}
+      → Race-list (s .precedence) held races
+      → length races ≤ length places
+      → Step s held (list places) (listed (length races) (races ++ drop (length races) places)) held
   lists-not :
-    {places races : List RaceRow}
-    → Race-list (s .precedence) held races
-    → length places < length races
-    → Step s held (list places) (needs (length races) places) held
+      {places races : List RaceRow}
+      → Race-list (s .precedence) held races
+      → length places < length races
+      → Step s held (list places) (needs (length races) places) held
 
 -- calls in turn, going on after refusals
 pub data Run (s : Setting) : List Row → List Call → List Answer → List Row → Type 0 where
   done : {held : List Row} → Run s held [] [] held
   next :
-    {held between after : List Row} {c : Call} {calls : List Call} {a : Answer} {answers : List Answer}
-    → Step s held c a between
-    → Run s between calls answers after
-    → Run s held (c ∷ calls) (a ∷ answers) after
+      {held between after : List Row} {c : Call} {calls : List Call} {a : Answer} {answers : List Answer}
+      → Step s held c a between
+      → Run s between calls answers after
+      → Run s held (c ∷ calls) (a ∷ answers) after
 
 -- ---- Renamed runs
 
@@ -95,7 +95,7 @@ pub data Renamed-call (m : Renaming) : Call → Call → Type 0 where
 pub data Same-answer : Answer → Answer → Type 0 where
   equal : {a : Answer} → Same-answer a a
   same-races :
-    {n : ℕ} {places places′ : List RaceRow} → take n places ≡ take n places′ → Same-answer (listed n places) (listed n places′)
+      {n : ℕ} {places places′ : List RaceRow} → take n places ≡ take n places′ → Same-answer (listed n places) (listed n places′)
   same-need : {n : ℕ} {places places′ : List RaceRow} → Same-answer (needs n places) (needs n places′)
 
 pub data Pairwise {A B : Type 0} (R : A → B → Type 0) : List A → List B → Type 0 where
