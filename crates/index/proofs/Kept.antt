@@ -16,7 +16,7 @@ use Rattle.columns.specs.Positions.{has}
 use Rattle.columns.specs.Sweep.{columnAt}
 use Rattle.happens_before.specs.Trace.{row, blank}
 use Rattle.std.specs.declared.option.Option.{Option}
-use Rattle.recording.specs.Codes.{threadexit, attachQ, release, enable}
+use Rattle.recording.specs.Codes.{threadexit, attachQ, end, release, enable}
 use Rattle.rules.specs.Acceptance.{does, isOn, forks, loops}
 use Rattle.rules.specs.Options.{isOf}
 use Rattle.index.specs.declared.sets.Index.{Index}
@@ -136,6 +136,7 @@ module _
         attaches = pushed 64 (does attachQ) _ _ _ (indexed .attaches) (kinds .attaches) (rest .attaches);
         forked = pushed 64 forks _ _ _ (indexed .forked) (kinds .forked) (rest .forked);
         exits = pushed 64 (does threadexit) _ _ _ (indexed .exits) (kinds .exits) (rest .exits);
+        ended = pushed 64 (does end) _ _ _ (indexed .ended) (kinds .ended) (rest .ended);
         releases = pushed 64 (isOn release) _ _ _ (indexed .releases) (kinds .releases) (rest .releases);
         enables = pushed 512 (isOn enable) _ _ _ (indexed .enables) (kinds .enables) (rest .enables);
         members =

@@ -44,6 +44,7 @@ pub record Indexed (held : List Row) (index : Index) : Type 0 where
   pub attaches : Keeps 64 (does attachQ) held (index .attaches)
   pub forked : Keeps 64 forks held (index .forks)
   pub exits : Keeps 64 (does threadexit) held (index .exits)
+  pub ended : Keeps 64 (does end) held (index .ends)
   pub releases : Keeps 64 (isOn release) held (index .releases)
   pub enables : Keeps 512 (isOn enable) held (index .enables)
   pub members : Keeps-since 512 memberAt held (index .members)
@@ -54,6 +55,7 @@ pub record Noted-kinds (o : Row) (position : ℕ) (before after : Index) : Type 
   pub attaches : Notes 64 (does attachQ) o position (before .attaches) (after .attaches)
   pub forked : Notes 64 forks o position (before .forks) (after .forks)
   pub exits : Notes 64 (does threadexit) o position (before .exits) (after .exits)
+  pub ended : Notes 64 (does end) o position (before .ends) (after .ends)
   pub releases : Notes 64 (isOn release) o position (before .releases) (after .releases)
   pub enables : Notes 512 (isOn enable) o position (before .enables) (after .enables)
   pub unlooped : after .unlooped ≡ before .unlooped
@@ -67,5 +69,6 @@ pub record Noted-rest (thread : ℕ) (looping : Bool) (task : Option ℕ) (posit
   pub attaches : after .attaches ≡ before .attaches
   pub forked : after .forks ≡ before .forks
   pub exits : after .exits ≡ before .exits
+  pub ended : after .ends ≡ before .ends
   pub releases : after .releases ≡ before .releases
   pub enables : after .enables ≡ before .enables

@@ -14,6 +14,8 @@ pub struct Index {
     forks: [Column; 64],
     /// By thread: its threadexit.
     exits: [Column; 64],
+    /// By thread: its ends of tasks.
+    ends: [Column; 64],
     /// By lock: its releases.
     releases: [Column; 64],
     /// By task: its enables.

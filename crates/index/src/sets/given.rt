@@ -8,10 +8,10 @@ ghost use lib.Dec.{eqb, ltb};
 ghost use lib.ListN.{length, take};
 ghost use Rattle.columns.specs.Positions.{has};
 ghost use Rattle.happens_before.specs.Trace.{row};
-ghost use Rattle.recording.specs.Codes.{release};
+ghost use Rattle.recording.specs.Codes.{end, release};
 ghost use Rattle.recording.specs.Rows.{rowOf};
 ghost use Rattle.recording.specs.declared.row.Row.{Row};
-ghost use Rattle.rules.specs.Acceptance.{isOn};
+ghost use Rattle.rules.specs.Acceptance.{does, isOn};
 ghost use Rattle.index.specs.Given.{kindly};
 ghost use Rattle.index.specs.Indexed.{Indexed, unloopedAt, memberAt};
 use crate::sets::Index;
@@ -74,5 +74,12 @@ impl Index {
         ensures { λ r. ⌜ ((held : List Row) → Indexed held (now (self .entry)) → (i : ℕ) → has (now r) i ≡ (ltb i (length held) && eqb (row held i .thread) (thread .number))) ⌝ }
     {
         &self.own[thread.number() as usize]
+    }
+
+    /// The ends of tasks by a thread.
+    pub fn ends(&self, thread: Thread) -> &Column
+        ensures { λ r. ⌜ ((held : List Row) → Indexed held (now (self .entry)) → (i : ℕ) → has (now r) i ≡ (ltb i (length held) && does end (thread .number) (row held i))) ⌝ }
+    {
+        &self.ends[thread.number() as usize]
     }
 }

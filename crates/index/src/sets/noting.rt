@@ -30,6 +30,7 @@ impl Index {
             attaches: [none; 64],
             forks: [none; 64],
             exits: [none; 64],
+            ends: [none; 64],
             releases: [none; 64],
             enables: [none; 512],
             members: [none; 512],
@@ -45,6 +46,7 @@ impl Index {
         match action {
             Action::AttachQ => note(&mut self.attaches, t, position),
             Action::ThreadExit => note(&mut self.exits, t, position),
+            Action::End(_) => note(&mut self.ends, t, position),
             Action::Fork(target) => note(&mut self.forks, target.number() as usize, position),
             Action::Release(lock) => note(&mut self.releases, lock.number() as usize, position),
             Action::Enable(task) => note(&mut self.enables, task.number() as usize, position),

@@ -11,6 +11,7 @@ returns c =
       attaches = λ k i l. empty-table 64 e h _ k i l;
       forked = λ k i l. empty-table 64 e h _ k i l;
       exits = λ k i l. empty-table 64 e h _ k i l;
+      ended = λ k i l. empty-table 64 e h _ k i l;
       releases = λ k i l. empty-table 64 e h _ k i l;
       enables = λ k i l. empty-table 512 e h _ k i l;
       members = λ k i l. empty-table 512 e h _ k i l }
