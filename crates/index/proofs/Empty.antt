@@ -13,8 +13,8 @@ use Rattle.columns.specs.Positions.{has, Holds, none}
 use Rattle.columns.specs.Sweep.{columnAt}
 
 pub empty-table :
-  (n : ℕ) (c : Column) → Holds c none → (b : Bool) (k i : ℕ) → k < n
-  → has (columnAt (replicate n c) k) i ≡ (ltb i 0 && b)
+    (n : ℕ) (c : Column) → Holds c none → (b : Bool) (k i : ℕ) → k < n
+    → has (columnAt (replicate n c) k) i ≡ (ltb i 0 && b)
 empty-table n c h b k i l =
     ap (λ x. has x i) (getD-replicate n k c (record { words = [] }) l)
     ∙ (h i ∙ sym (ap (λ x. x && b) (le-ltb i 0 (omega arith))))

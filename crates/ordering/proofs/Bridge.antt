@@ -15,10 +15,31 @@ use Rattle.recording.specs.Codes.{threadinit, threadexit, fork, join, attachQ, 
 use Rattle.recording.specs.declared.row.Row.{Row}
 use Rattle.happens_before.specs.Trace.{row, code, thread, item, target, marks, Belongs, Posts}
 use Rattle.happens_before.specs.Order.{
-  Precedence, Pairs, Program-order, Task-order, Attach-order, Enable-order, Post-order, Fork-order, Join-order, Lock-order, Handover }
+  Precedence,
+  Pairs,
+  Program-order,
+  Task-order,
+  Attach-order,
+  Enable-order,
+  Post-order,
+  Fork-order,
+  Join-order,
+  Lock-order,
+  Handover,
+}
 use Rattle.happens_before.proofs.Rules.{Base, Early-queue-order, Early-run-to-completion}
 use Rattle.happens_before.proofs.Rules.Base.{
-  program-order, task-order, attach-order, enable-order, post-order, fork-order, join-order, lock-order, queue-order, run-to-completion }
+  program-order,
+  task-order,
+  attach-order,
+  enable-order,
+  post-order,
+  fork-order,
+  join-order,
+  lock-order,
+  queue-order,
+  run-to-completion,
+}
 use Rattle.rules.specs.Acceptance.{does, isOn, forks, loops}
 use Rattle.rules.specs.Options.{isOf}
 use Rattle.rules.proofs.Places.{some-before, found-before}
@@ -51,31 +72,32 @@ module _ (held : List Row) (o : Row) where
     -- ---- program order
     program-sound : unloopedAt (take i held) (o .thread) (row held i) ≡ true → Program-order (held ++ o ∷ []) i (length held)
     program-sound h =
-        let (e, f) = and-parts (eqb (row held i .thread) (o .thread)) _ h in
-        ( ap (λ r. r .thread) at ∙ (eqb-true _ _ e ∙ sym (ap (λ r. r .thread) at-newest))
-        , λ k ki c t.
-          let at-k = row-earlier held o k (omega arith) in
-          let c′ = sym (ap (λ r. r .code) at-k) ∙ c in
-          let t′ = sym (ap (λ r. r .thread) at-k) ∙ (t ∙ (ap (λ r. r .thread) at ∙ eqb-true _ _ e)) in
-          both-ways _ (not-true _ f)
-          (some-before held i (does loopOnQ (o .thread)) k ki (omega arith) (and-from _ _ (eq-eqb _ _ c′) (eq-eqb _ _ t′))) )
+        let (e, f) = and-parts (eqb (row held i .thread) (o .thread)) _ h in (
+          ap (λ r. r .thread) at ∙ (eqb-true _ _ e ∙ sym (ap (λ r. r .thread) at-newest)),
+          λ k ki c t.
+              let at-k = row-earlier held o k (omega arith) in
+              let c′ = sym (ap (λ r. r .code) at-k) ∙ c in
+              let t′ = sym (ap (λ r. r .thread) at-k) ∙ (t ∙ (ap (λ r. r .thread) at ∙ eqb-true _ _ e)) in
+              both-ways _ (not-true _ f)
+              (some-before held i (does loopOnQ (o .thread)) k ki (omega arith) (and-from _ _ (eq-eqb _ _ c′) (eq-eqb _ _ t′))),
+        )
 
     program-full : Program-order (held ++ o ∷ []) i (length held) → unloopedAt (take i held) (o .thread) (row held i) ≡ true
     program-full (t, n) =
         let e = sym (ap (λ r. r .thread) at) ∙ (t ∙ ap (λ r. r .thread) at-newest) in
         and-from (eqb (row held i .thread) (o .thread)) _ (eq-eqb _ _ e)
         (not-from-false _
-          (⊎-elim
-            (λ (h : loops (take i held) (o .thread) ≡ true).
-              let r = found-before held i (does loopOnQ (o .thread)) h in
-              let k = r .0 in
-              let at-k = row-earlier held o k (r .2) in
-              let (c, u) = and-parts (eqb (code held k) loopOnQ) _ (r .3) in
-              absurd
-              (n k (r .1) (ap (λ r. r .code) at-k ∙ eqb-true _ _ c)
-                (ap (λ r. r .thread) at-k ∙ (eqb-true _ _ u ∙ sym (ap (λ r. r .thread) at ∙ e)))))
-            (λ q. q)
-            (cases-bool (loops (take i held) (o .thread)))))
+        (⊎-elim
+        (λ (h : loops (take i held) (o .thread) ≡ true).
+        let r = found-before held i (does loopOnQ (o .thread)) h in
+        let k = r .0 in
+        let at-k = row-earlier held o k (r .2) in
+        let (c, u) = and-parts (eqb (code held k) loopOnQ) _ (r .3) in
+        absurd
+        (n k (r .1) (ap (λ r. r .code) at-k ∙ eqb-true _ _ c)
+        (ap (λ r. r .thread) at-k ∙ (eqb-true _ _ u ∙ sym (ap (λ r. r .thread) at ∙ e)))))
+        (λ q. q)
+        (cases-bool (loops (take i held) (o .thread)))))
 
     -- ---- task order
     earlier-member : (p : ℕ) → memberAt (take i held) p (row held i) ≡ memberAt (take i (held ++ o ∷ [])) p (row (held ++ o ∷ []) i)
@@ -95,8 +117,8 @@ module _ (held : List Row) (o : Row) where
         (p, belongs-sound p g, member-sound (held ++ o ∷ []) (length held) p newest-held (sym (newest-member p) ∙ h))
 
     task-full :
-      Task-order (held ++ o ∷ []) i (length held)
-      → (p : ℕ) × (memberAt held p o ≡ true) × (memberAt (take i held) p (row held i) ≡ true)
+        Task-order (held ++ o ∷ []) i (length held)
+        → (p : ℕ) × (memberAt held p o ≡ true) × (memberAt (take i held) p (row held i) ≡ true)
     task-full (p, b, c) =
         (p, newest-member p ∙ member-full (held ++ o ∷ []) (length held) p newest-held c, belongs-full p b)
 
@@ -115,12 +137,12 @@ module _ (held : List Row) (o : Row) where
       kindly-sound h =
           ⊎-elim attached
           (λ h.
-            ⊎-elim enabled
-            (λ h.
-              ⊎-elim forked
-              (λ h. ⊎-elim joined locked (or-cases (eqb (o .code) join && does threadexit (o .target) (row held i)) _ h))
-              (or-cases (eqb (o .code) threadinit && forks (o .thread) (row held i)) _ h))
-            (or-cases (eqb (o .code) post && isOn enable (o .item) (row held i)) _ h))
+          ⊎-elim enabled
+          (λ h.
+          ⊎-elim forked
+          (λ h. ⊎-elim joined locked (or-cases (eqb (o .code) join && does threadexit (o .target) (row held i)) _ h))
+          (or-cases (eqb (o .code) threadinit && forks (o .thread) (row held i)) _ h))
+          (or-cases (eqb (o .code) post && isOn enable (o .item) (row held i)) _ h))
           (or-cases (eqb (o .code) post && (does attachQ (o .target) (row held i) && not (eqb (o .target) (o .thread)))) _ h)
         where
           locked : (eqb (o .code) acquire && (isOn release (o .item) (row held i) && not (eqb (row held i .thread) (o .thread)))) ≡ true → Given
@@ -128,37 +150,43 @@ module _ (held : List Row) (o : Row) where
               let (a, b) = and-parts (eqb (o .code) acquire) _ e in
               let (c, d) = and-parts (isOn release (o .item) (row held i)) _ b in
               let (f, g) = and-parts (eqb (row held i .code) release) _ c in
-              lock-order
-              ( c-i release f
-              , c-n acquire a
-              , (λ t. (at t) .item) ∙ (eqb-true _ _ g ∙ sym (λ t. (at-newest t) .item))
-              , λ q. eqb-false _ _ (not-true _ d) (sym (λ t. (at t) .thread) ∙ (q ∙ (λ t. (at-newest t) .thread))) )
+              lock-order (
+                c-i release f,
+                c-n acquire a,
+                (λ t. (at t) .item) ∙ (eqb-true _ _ g ∙ sym (λ t. (at-newest t) .item)),
+                λ q. eqb-false _ _ (not-true _ d) (sym (λ t. (at t) .thread) ∙ (q ∙ (λ t. (at-newest t) .thread))),
+              )
+
           joined : (eqb (o .code) join && does threadexit (o .target) (row held i)) ≡ true → Given
           joined e =
               let (a, b) = and-parts (eqb (o .code) join) _ e in
               let (f, g) = and-parts (eqb (row held i .code) threadexit) _ b in
               join-order (c-i threadexit f, c-n join a, (λ t. (at t) .thread) ∙ (eqb-true _ _ g ∙ sym (λ t. (at-newest t) .target)))
+
           forked : (eqb (o .code) threadinit && forks (o .thread) (row held i)) ≡ true → Given
           forked e =
               let (a, b) = and-parts (eqb (o .code) threadinit) _ e in
               let (f, g) = and-parts (eqb (row held i .code) fork) _ b in
               fork-order (c-i fork f, c-n threadinit a, (λ t. (at t) .target) ∙ (eqb-true _ _ g ∙ sym (λ t. (at-newest t) .thread)))
+
           enabled : (eqb (o .code) post && isOn enable (o .item) (row held i)) ≡ true → Given
           enabled e =
               let (a, b) = and-parts (eqb (o .code) post) _ e in
               let (f, g) = and-parts (eqb (row held i .code) enable) _ b in
               enable-order (c-i enable f, c-n post a, (λ t. (at t) .item) ∙ (eqb-true _ _ g ∙ sym (λ t. (at-newest t) .item)))
+
           attached : (eqb (o .code) post && (does attachQ (o .target) (row held i) && not (eqb (o .target) (o .thread)))) ≡ true → Given
           attached e =
               let (a, b) = and-parts (eqb (o .code) post) _ e in
               let (c, d) = and-parts (does attachQ (o .target) (row held i)) _ b in
               let (f, g) = and-parts (eqb (row held i .code) attachQ) _ c in
               let same : thread (held ++ o ∷ []) i ≡ o .target = (λ t. (at t) .thread) ∙ eqb-true _ _ g in
-              attach-order
-              ( c-i attachQ f
-              , c-n post a
-              , (λ t. (at-newest t) .target) ∙ sym same
-              , λ q. eqb-false _ _ (not-true _ d) (sym same ∙ (sym q ∙ (λ t. (at-newest t) .thread))) )
+              attach-order (
+                c-i attachQ f,
+                c-n post a,
+                (λ t. (at-newest t) .target) ∙ sym same,
+                λ q. eqb-false _ _ (not-true _ d) (sym same ∙ (sym q ∙ (λ t. (at-newest t) .thread))),
+              )
 
       i-code : {c : ℕ} → code (held ++ o ∷ []) i ≡ c → row held i .code ≡ c
       i-code e = sym (λ t. (at t) .code) ∙ e
@@ -171,50 +199,50 @@ module _ (held : List Row) (o : Row) where
           let same : row held i .thread ≡ o .target = sym (λ t. (at t) .thread) ∙ (sym c ∙ (λ t. (at-newest t) .target)) in
           or-left _ _
           (and-from (eqb (o .code) post) _ (eq-eqb _ _ (n-code b))
-            (and-from (does attachQ (o .target) (row held i)) _
-              (and-from (eqb (row held i .code) attachQ) _ (eq-eqb _ _ (i-code a)) (eq-eqb _ _ same))
-              (not-from-false _
-                (ne-eqb _ _ (λ q. d ((λ t. (at-newest t) .thread) ∙ (sym q ∙ (sym same ∙ sym (λ t. (at t) .thread)))))))))
+          (and-from (does attachQ (o .target) (row held i)) _
+          (and-from (eqb (row held i .code) attachQ) _ (eq-eqb _ _ (i-code a)) (eq-eqb _ _ same))
+          (not-from-false _
+          (ne-eqb _ _ (λ q. d ((λ t. (at-newest t) .thread) ∙ (sym q ∙ (sym same ∙ sym (λ t. (at t) .thread)))))))))
 
       enable-full : Enable-order (held ++ o ∷ []) i (length held) → kindly (row held i) o ≡ true
       enable-full (a, b, c) =
           or-right (eqb (o .code) post && (does attachQ (o .target) (row held i) && not (eqb (o .target) (o .thread)))) _
           (or-left _ _
-            (and-from (eqb (o .code) post) _ (eq-eqb _ _ (n-code b))
-              (and-from (eqb (row held i .code) enable) _ (eq-eqb _ _ (i-code a))
-                (eq-eqb _ _ (sym (λ t. (at t) .item) ∙ (c ∙ (λ t. (at-newest t) .item)))))))
+          (and-from (eqb (o .code) post) _ (eq-eqb _ _ (n-code b))
+          (and-from (eqb (row held i .code) enable) _ (eq-eqb _ _ (i-code a))
+          (eq-eqb _ _ (sym (λ t. (at t) .item) ∙ (c ∙ (λ t. (at-newest t) .item)))))))
 
       fork-full : Fork-order (held ++ o ∷ []) i (length held) → kindly (row held i) o ≡ true
       fork-full (a, b, c) =
           or-right (eqb (o .code) post && (does attachQ (o .target) (row held i) && not (eqb (o .target) (o .thread)))) _
           (or-right (eqb (o .code) post && isOn enable (o .item) (row held i)) _
-            (or-left _ _
-              (and-from (eqb (o .code) threadinit) _ (eq-eqb _ _ (n-code b))
-                (and-from (eqb (row held i .code) fork) _ (eq-eqb _ _ (i-code a))
-                  (eq-eqb _ _ (sym (λ t. (at t) .target) ∙ (c ∙ (λ t. (at-newest t) .thread))))))))
+          (or-left _ _
+          (and-from (eqb (o .code) threadinit) _ (eq-eqb _ _ (n-code b))
+          (and-from (eqb (row held i .code) fork) _ (eq-eqb _ _ (i-code a))
+          (eq-eqb _ _ (sym (λ t. (at t) .target) ∙ (c ∙ (λ t. (at-newest t) .thread))))))))
 
       join-full : Join-order (held ++ o ∷ []) i (length held) → kindly (row held i) o ≡ true
       join-full (a, b, c) =
           or-right (eqb (o .code) post && (does attachQ (o .target) (row held i) && not (eqb (o .target) (o .thread)))) _
           (or-right (eqb (o .code) post && isOn enable (o .item) (row held i)) _
-            (or-right (eqb (o .code) threadinit && forks (o .thread) (row held i)) _
-              (or-left _ _
-                (and-from (eqb (o .code) join) _ (eq-eqb _ _ (n-code b))
-                  (and-from (eqb (row held i .code) threadexit) _ (eq-eqb _ _ (i-code a))
-                    (eq-eqb _ _ (sym (λ t. (at t) .thread) ∙ (c ∙ (λ t. (at-newest t) .target)))))))))
+          (or-right (eqb (o .code) threadinit && forks (o .thread) (row held i)) _
+          (or-left _ _
+          (and-from (eqb (o .code) join) _ (eq-eqb _ _ (n-code b))
+          (and-from (eqb (row held i .code) threadexit) _ (eq-eqb _ _ (i-code a))
+          (eq-eqb _ _ (sym (λ t. (at t) .thread) ∙ (c ∙ (λ t. (at-newest t) .target)))))))))
 
       lock-full : Lock-order (held ++ o ∷ []) i (length held) → kindly (row held i) o ≡ true
       lock-full (a, b, c, d) =
           or-right (eqb (o .code) post && (does attachQ (o .target) (row held i) && not (eqb (o .target) (o .thread)))) _
           (or-right (eqb (o .code) post && isOn enable (o .item) (row held i)) _
-            (or-right (eqb (o .code) threadinit && forks (o .thread) (row held i)) _
-              (or-right (eqb (o .code) join && does threadexit (o .target) (row held i)) _
-                (and-from (eqb (o .code) acquire) _ (eq-eqb _ _ (n-code b))
-                  (and-from (isOn release (o .item) (row held i)) _
-                    (and-from (eqb (row held i .code) release) _ (eq-eqb _ _ (i-code a))
-                      (eq-eqb _ _ (sym (λ t. (at t) .item) ∙ (c ∙ (λ t. (at-newest t) .item)))))
-                    (not-from-false _
-                      (ne-eqb _ _ (λ q. d ((λ t. (at t) .thread) ∙ (q ∙ sym (λ t. (at-newest t) .thread)))))))))))
+          (or-right (eqb (o .code) threadinit && forks (o .thread) (row held i)) _
+          (or-right (eqb (o .code) join && does threadexit (o .target) (row held i)) _
+          (and-from (eqb (o .code) acquire) _ (eq-eqb _ _ (n-code b))
+          (and-from (isOn release (o .item) (row held i)) _
+          (and-from (eqb (row held i .code) release) _ (eq-eqb _ _ (i-code a))
+          (eq-eqb _ _ (sym (λ t. (at t) .item) ∙ (c ∙ (λ t. (at-newest t) .item)))))
+          (not-from-false _
+          (ne-eqb _ _ (λ q. d ((λ t. (at t) .thread) ∙ (q ∙ sym (λ t. (at-newest t) .thread)))))))))))
 
       -- ---- post order, queue order and run to completion
       n-item : item (held ++ o ∷ []) (length held) ≡ o .item
@@ -240,10 +268,11 @@ module _ (D : Precedence) (R : Pairs) (held : List Row) (o : Row) (i : ℕ) (l :
   handover : o .code ≡ begin → code held i ≡ end → thread held i ≡ o .thread → Handover (held ++ o ∷ []) i (length held)
   handover b e t =
       let at-i = row-earlier held o i l in
-      let at-n = row-newest held o (length held) refl in
-      ( (λ x. (at-i x) .code) ∙ e
-      , (λ x. (at-n x) .code) ∙ b
-      , (λ x. (at-i x) .thread) ∙ (t ∙ sym (λ x. (at-n x) .thread)) )
+      let at-n = row-newest held o (length held) refl in (
+        (λ x. (at-i x) .code) ∙ e,
+        (λ x. (at-n x) .code) ∙ b,
+        (λ x. (at-i x) .thread) ∙ (t ∙ sym (λ x. (at-n x) .thread)),
+      )
 
   later-posts : (b : ℕ) → Posts held b (o .item) → Posts (held ++ o ∷ []) b (item (held ++ o ∷ []) (length held))
   later-posts b p =
@@ -265,27 +294,33 @@ module _ (D : Precedence) (R : Pairs) (held : List Row) (o : Row) (i : ℕ) (l :
       ((λ t. (at-i t) .code) ∙ d, (λ t. (at-n t) .code) ∙ c, (λ t. (at-i t) .item) ∙ (e ∙ sym (λ t. (at-n t) .item)))
   directly-sound (by-handover b c p e t (inl (a, an, q, r, d))) =
       let bn = post-held held b (o .item) p in
-      queue-order
-      ( handover c e t
-      , ( a
-        , b
-        , an
-        , bn
-        , posts-up held o i l D R a (item (held ++ o ∷ []) i) an (subst (Posts held a) (sym item-i) q)
-        , later-posts b p
-        , r
-        , (λ x. D (marks-at a an x) (marks-at b bn x)) ∙ d ) )
+      queue-order (
+        handover c e t,
+        (
+          a,
+          b,
+          an,
+          bn,
+          posts-up held o i l D R a (item (held ++ o ∷ []) i) an (subst (Posts held a) (sym item-i) q),
+          later-posts b p,
+          r,
+          (λ x. D (marks-at a an x) (marks-at b bn x)) ∙ d,
+        ),
+      )
   directly-sound (by-handover b c p e t (inr (k, kn, m, r))) =
       let bn = post-held held b (o .item) p in
-      run-to-completion
-      ( handover c e t
-      , ( k
-        , b
-        , kn
-        , bn
-        , subst (Belongs (held ++ o ∷ []) k) (sym item-i) (belongs-sound held o k kn (item held i) m)
-        , later-posts b p
-        , r ) )
+      run-to-completion (
+        handover c e t,
+        (
+          k,
+          b,
+          kn,
+          bn,
+          subst (Belongs (held ++ o ∷ []) k) (sym item-i) (belongs-sound held o k kn (item held i) m),
+          later-posts b p,
+          r,
+        ),
+      )
 
   pub directly-full : Base D (held ++ o ∷ []) R i (length held) → Directly D R held o i
   directly-full (program-order h) = by-program (program-full held o i l h)
@@ -301,12 +336,13 @@ module _ (D : Precedence) (R : Pairs) (held : List Row) (o : Row) (i : ℕ) (l :
       by-handover b (n-code held o i l D R c)
       (posts-down held o i l D R b (o .item) bn (subst (Posts (held ++ o ∷ []) b) (n-item held o i l D R) p))
       (i-code held o i l D R e) (same-thread t)
-      (inl
-        ( a
-        , an
-        , posts-down held o i l D R a (item held i) an (subst (Posts (held ++ o ∷ []) a) item-i q)
-        , r
-        , sym (λ x. D (marks-at a an x) (marks-at b bn x)) ∙ d ))
+      (inl (
+        a,
+        an,
+        posts-down held o i l D R a (item held i) an (subst (Posts (held ++ o ∷ []) a) item-i q),
+        r,
+        sym (λ x. D (marks-at a an x) (marks-at b bn x)) ∙ d,
+      ))
   directly-full (run-to-completion ((e, c, t), (k, b, kn, bn, m, p, r))) =
       by-handover b (n-code held o i l D R c)
       (posts-down held o i l D R b (o .item) bn (subst (Posts (held ++ o ∷ []) b) (n-item held o i l D R) p))

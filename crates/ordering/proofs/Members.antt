@@ -45,8 +45,8 @@ module _ (trace : List Row) (i p : ℕ) (held : i < length trace) where
   member-sound h = go (or-cases (current (take i trace) (thread trace i) p) _ h)
     where
       go :
-        (current (take i trace) (thread trace i) p ≡ true) ⊎ (doesOn begin (thread trace i) p (row trace i) ≡ true)
-        → Belongs trace i p
+          (current (take i trace) (thread trace i) p ≡ true) ⊎ (doesOn begin (thread trace i) p (row trace i) ≡ true)
+          → Belongs trace i p
       go (inl e) =
           let r = lasting-found (doesOn begin (thread trace i) p) (doesOn end (thread trace i) p) (take i trace) e in
           let b = r .0 in
@@ -54,22 +54,23 @@ module _ (trace : List Row) (i p : ℕ) (held : i < length trace) where
           let v = length-before trace i in
           let bi : b < i = omega arith in
           let w = done begin (thread trace i) p (row (take i trace) b) (r .2 .0) in
-          let at = row-before trace i b bi in
-          ( b
-          , (omega arith)
-          , (sym (ap (λ r. r .code) at) ∙ w .0, sym (ap (λ r. r .thread) at) ∙ w .1, sym (ap (λ r. r .item) at) ∙ w .2)
-          , λ e be ei d.
-            ⊎-elim
-            (λ (q : b ≡ e).
-              let c1 : code trace b ≡ 8 = sym (ap (λ r. r .code) at) ∙ w .0 in
-              let c2 : code trace b ≡ 9 = ap (code trace) q ∙ d .0 in
-              omega arith)
-            (λ (q : b ≡ e → ⊥).
-              let x = length-take-le i trace (let y : i ≤ length trace = omega arith in y) in
-              both-ways _
-              (r .2 .1 e (omega arith) (omega arith))
-              (ap (doesOn end (thread trace i) p) (row-before trace i e ei) ∙ does-it end (thread trace i) p (row trace e) (d .0) (d .1) (d .2)))
-            (cases-eq b e) )
+          let at = row-before trace i b bi in (
+            b,
+            (omega arith),
+            (sym (ap (λ r. r .code) at) ∙ w .0, sym (ap (λ r. r .thread) at) ∙ w .1, sym (ap (λ r. r .item) at) ∙ w .2),
+            λ e be ei d.
+                ⊎-elim
+                (λ (q : b ≡ e).
+                let c1 : code trace b ≡ 8 = sym (ap (λ r. r .code) at) ∙ w .0 in
+                let c2 : code trace b ≡ 9 = ap (code trace) q ∙ d .0 in
+                omega arith)
+                (λ (q : b ≡ e → ⊥).
+                let x = length-take-le i trace (let y : i ≤ length trace = omega arith in y) in
+                both-ways _
+                (r .2 .1 e (omega arith) (omega arith))
+                (ap (doesOn end (thread trace i) p) (row-before trace i e ei) ∙ does-it end (thread trace i) p (row trace e) (d .0) (d .1) (d .2)))
+                (cases-eq b e),
+          )
       go (inr e) =
           let w = done begin (thread trace i) p (row trace i) e in
           (i, omega arith, w, λ e l u d. let z : ⊥ = omega arith in z)
@@ -78,11 +79,11 @@ module _ (trace : List Row) (i p : ℕ) (held : i < length trace) where
   member-full (b, bi, w, n) =
       ⊎-elim
       (λ (e : b ≡ i).
-        or-right (current (take i trace) (thread trace i) p) _
-        (ap (λ k. doesOn begin (thread trace i) p (row trace k)) (sym e) ∙ does-it begin (thread trace i) p (row trace b) (w .0) (w .1) (w .2)))
+      or-right (current (take i trace) (thread trace i) p) _
+      (ap (λ k. doesOn begin (thread trace i) p (row trace k)) (sym e) ∙ does-it begin (thread trace i) p (row trace b) (w .0) (w .1) (w .2)))
       (λ (e : b ≡ i → ⊥).
-        or-left (current (take i trace) (thread trace i) p) _
-        (lasting-before trace i (doesOn begin (thread trace i) p) (doesOn end (thread trace i) p) b (omega arith) (omega arith)
-          (does-it begin (thread trace i) p (row trace b) (w .0) (w .1) (w .2))
-          (λ k u v. not-done end (thread trace i) p (row trace k) (λ d. n k (omega arith) v d))))
+      or-left (current (take i trace) (thread trace i) p) _
+      (lasting-before trace i (doesOn begin (thread trace i) p) (doesOn end (thread trace i) p) b (omega arith) (omega arith)
+      (does-it begin (thread trace i) p (row trace b) (w .0) (w .1) (w .2))
+      (λ k u v. not-done end (thread trace i) p (row trace k) (λ d. n k (omega arith) v d))))
       (cases-eq b i)

@@ -1,1 +1,3 @@
 //! The column of a new operation: what is before it.
+pub mod column;
+mod handover;

@@ -18,7 +18,11 @@ impl Marks {
         ensures { λ r. ⌜ r ≡ marksIn row ⌝ }
     {
         let environment = row.marks % 2 == 1;
-        let delay = if row.marks >= 2 { Some(row.delay) } else { None };
+        let delay = if row.marks >= 2 {
+            Some(row.delay)
+        } else {
+            None
+        };
         Marks { environment, delay }
     }
 }

@@ -48,7 +48,11 @@ impl Index {
             }
             Action::ThreadInit => column.join(&self.forks[thread.number() as usize]),
             Action::Join(target) => column.join(&self.exits[target.number() as usize]),
-            Action::Acquire(lock) => self.add_lock_order(thread.number() as usize, lock.number() as usize, column),
+            Action::Acquire(lock) => self.add_lock_order(
+                thread.number() as usize,
+                lock.number() as usize,
+                column,
+            ),
             _ => {}
         }
     }

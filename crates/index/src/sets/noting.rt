@@ -67,7 +67,13 @@ impl Index {
     }
 
     /// Notes the position of an accepted operation, by whether its thread looped before it and by its task.
-    pub fn note_operation(&mut self, operation: Operation, position: usize, looping: bool, task: Option<u16>)
+    pub fn note_operation(
+        &mut self,
+        operation: Operation,
+        position: usize,
+        looping: bool,
+        task: Option<u16>,
+    )
         ensures { λ _. ⌜ ((held : List Row) → Indexed held (now (self .entry)) → position ≡ length held → position < 512 → looping ≡ loops held (operationRow operation .thread) → ((p : ℕ) → isOf task p ≡ memberAt held p (operationRow operation)) → Indexed (held ++ operationRow operation ∷ []) (now (self .exit))) ⌝ }
     {
         let thread = operation.thread();

@@ -53,7 +53,11 @@ impl Operation {
             code::JOIN => Action::Join(Thread::of(row.target)),
             code::ATTACHQ => Action::AttachQ,
             code::LOOPONQ => Action::LoopOnQ,
-            code::POST => Action::Post(Task::of(row.item), Thread::of(row.target), Marks::in_row(row)),
+            code::POST => Action::Post(
+                Task::of(row.item),
+                Thread::of(row.target),
+                Marks::in_row(row),
+            ),
             code::BEGIN => Action::Begin(Task::of(row.item)),
             code::END => Action::End(Task::of(row.item)),
             code::ACQUIRE => Action::Acquire(lock(row)),

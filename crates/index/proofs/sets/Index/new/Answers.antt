@@ -14,4 +14,5 @@ returns c =
       ended = λ k i l. empty-table 64 e h _ k i l;
       releases = λ k i l. empty-table 64 e h _ k i l;
       enables = λ k i l. empty-table 512 e h _ k i l;
-      members = λ k i l. empty-table 512 e h _ k i l }
+      members = λ k i l. empty-table 512 e h _ k i l;
+    }

@@ -1,0 +1,4 @@
+pub mod Records
+pub mod Steps
+pub mod Judging
+pub mod Matches

@@ -1,0 +1,7 @@
+//! The inner state of an examination: the records of threads, locks and tasks that operations are judged by.
+mod locks;
+pub mod tables;
+pub mod tasks;
+#[cfg(test)]
+mod tests;
+pub mod threads;
