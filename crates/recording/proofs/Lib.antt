@@ -9,3 +9,5 @@ mod ReadRows
 mod FileBytes
 mod WrittenRecords
 mod ReadBack
+mod Held
+mod OperationTexts

@@ -11,3 +11,4 @@ pub mod Headers
 pub mod Reading
 pub mod Recordings
 pub mod Writing
+pub mod Texts

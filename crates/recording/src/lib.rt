@@ -12,4 +12,5 @@ pub mod reader;
 pub mod record;
 pub mod recording;
 pub mod row;
+pub mod text;
 pub mod writer;

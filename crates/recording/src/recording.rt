@@ -19,3 +19,4 @@ pub struct Recording {
 }
 
 pub mod read;
+pub mod said;

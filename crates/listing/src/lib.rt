@@ -1,0 +1,4 @@
+//! What a recording holds, as lines of text.
+pub mod fault;
+pub mod inspect;
+mod lines;
