@@ -6,7 +6,7 @@ use Prim.Native.Nat.{ℕ, _<_}
 use lib.Dec.{eqb, ltb}
 use lib.ListN.{length, set, replicate, length-set}
 use borrow.Author.Tests.{clash}
-use Rattle.std.proofs.shelf.Lists.{getD-replicate, length-map, length-replicate}
+use Rattle.std.proofs.shelf.Lists.{getD-replicate, length-map}
 use Rattle.std.specs.declared.option.Option.{Option}
 use Rattle.std.specs.declared.option.Option.the-variants.{Some, None}
 use Rattle.recording.specs.Codes.{fork, post, begin, acquire, release, threadexit}
@@ -14,11 +14,10 @@ use Rattle.recording.specs.Lawful.{lawful}
 use Rattle.recording.specs.declared.row.Row.{Row}
 use Rattle.rules.specs.Acceptance.{some, lasting}
 use Rattle.tables.specs.declared.tables.Tables.{Tables}
-use Rattle.tables.specs.declared.tasks.TaskRecord.{TaskRecord}
 use Rattle.tables.specs.declared.threads.Stage.the-variants.{Created, Unknown}
 use Rattle.tables.specs.declared.threads.ThreadRecord.{ThreadRecord}
 use Rattle.tables.specs.Matches.{Matches, Thread-matches, Lock-matches, Task-matches, tableRefusal}
-use Rattle.tables.specs.Records.{threadAt, holderAt, taskAt, unstarted}
+use Rattle.tables.specs.Records.{threadAt, unstarted}
 use Rattle.tables.specs.Steps.{changed, stepped, freed, relocked, retasked}
 use Rattle.tables.proofs.Bools.{or-false, and-false}
 use Rattle.tables.proofs.LockSteps.{locks-kept}

@@ -1,13 +1,13 @@
 -- Tests joined and taken apart.
 use mathlib.Core.Path.{_≡_, refl, sym, _∙_, ap}
-use mathlib.Core.Bool.{Bool, true, false, cond, not, _&&_, _||_}
+use mathlib.Core.Bool.{Bool, true, false, cond, _&&_, _||_}
 use Prim.Native.Nat.{ℕ, _<_}
 use lib.Dec.{eqb}
 use lib.ListN.{length, getD, set}
 use mathlib.Core.List.{List}
 use borrow.Author.Tests.{clash}
 use Rattle.std.proofs.shelf.Lists.{getD-set-same, getD-set-other}
-use Rattle.std.proofs.shelf.Tests.{eqb-true, eqb-false, and-parts, or-parts, not-false}
+use Rattle.std.proofs.shelf.Tests.{eqb-true, eqb-false}
 
 pub or-false : (x : Bool) → (x || false) ≡ x
 or-false true = refl

@@ -1,26 +1,17 @@
 -- Rows that were each accepted stay so as rows are added and cut off.
-use mathlib.Core.Path.{_≡_, sym, ap}
+use mathlib.Core.Path.{_≡_}
 use mathlib.Core.Bool.{Bool, true}
 use mathlib.Core.List.{List, [], _∷_, _++_}
 use mathlib.Core.Logic.{⊎-elim}
 use Prim.Native.Nat.{ℕ, _<_, _≤_, _+_, min}
 use native.Mathlib.Omega.{arith}
 use lib.ListN.{length, take}
-use Rattle.std.proofs.shelf.Lists.{
-  getD-append-left,
-  getD-push,
-  getD-take,
-  length-push,
-  length-take,
-  take-append-le,
-  take-at,
-  take-take,
-}
+use Rattle.std.proofs.shelf.Lists.{getD-append-left, getD-push, getD-take, length-push, length-take, take-append-le, take-at, take-take}
 use Rattle.std.proofs.shelf.Tests.{cases-lt}
 use Rattle.std.specs.declared.option.Option.the-variants.{None}
 use Rattle.recording.specs.Lawful.{lawful}
 use Rattle.recording.specs.declared.row.Row.{Row}
-use Rattle.happens_before.specs.Trace.{row, blank}
+use Rattle.happens_before.specs.Trace.{blank}
 use Rattle.tables.specs.Matches.{Fair, tableRefusal}
 
 module _ (initial : ℕ → Bool) where

@@ -2,7 +2,7 @@
 use mathlib.Core.Path.{_≡_, refl, sym, _∙_, ap}
 use mathlib.Core.Bool.{Bool, true, false, cond, not, _&&_, _||_}
 use mathlib.Core.List.{List, [], _∷_}
-use Prim.Native.Nat.{ℕ, _<_}
+use Prim.Native.Nat.{_<_}
 use lib.Dec.{eqb, leb}
 use lib.ListN.{length}
 use borrow.Author.Tests.{clash}
@@ -14,31 +14,10 @@ use Rattle.recording.specs.Codes.{post, begin, end}
 use Rattle.recording.specs.Faults.{first}
 use Rattle.recording.specs.Lawful.{orElse}
 use Rattle.recording.specs.declared.row.Row.{Row}
-use Rattle.rules.specs.Acceptance.{
-  Setting,
-  busy,
-  current,
-  posted,
-  waits,
-  overtakes,
-  thread-not-ready,
-  wrong-target,
-  wrong-queue,
-  wrong-lock,
-  not-admitted,
-  refusal,
-}
+use Rattle.rules.specs.Acceptance.{Setting, busy, current, posted, waits, overtakes, thread-not-ready, wrong-target, wrong-queue, wrong-lock, not-admitted, refusal}
 use Rattle.rules.specs.declared.faults.StateFault.{StateFault}
-use Rattle.rules.specs.declared.faults.StateFault.the-variants.{
-  Full,
-  ThreadNotReady,
-  WrongTarget,
-  WrongQueue,
-  WrongLock,
-  OutOfTurn,
-  NotAdmitted,
-}
-use Rattle.tables.specs.Matches.{free, tableRefusal}
+use Rattle.rules.specs.declared.faults.StateFault.the-variants.{Full, ThreadNotReady, WrongTarget, WrongQueue, WrongLock, OutOfTurn, NotAdmitted}
+use Rattle.tables.specs.Matches.{tableRefusal}
 use Rattle.tables.proofs.Bools.{and-false}
 use Rattle.tables.proofs.Verdicts.{never-overtakes}
 

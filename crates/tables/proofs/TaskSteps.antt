@@ -1,8 +1,8 @@
 -- The task records still agree after one more operation.
 use mathlib.Core.Path.{_≡_, refl, sym, _∙_, ap, subst}
-use mathlib.Core.Bool.{Bool, true, false, cond, not, _&&_, _||_}
+use mathlib.Core.Bool.{Bool, true, false, cond, _&&_, _||_}
 use mathlib.Core.List.{List, [], _∷_, _++_}
-use mathlib.Core.Logic.{_⊎_, inl, inr, ⊎-elim}
+use mathlib.Core.Logic.{_⊎_, ⊎-elim}
 use Prim.Native.Nat.{ℕ, _<_, _≤_, _+_}
 use native.Mathlib.Omega.{arith}
 use lib.Dec.{eqb, ltb}
@@ -16,7 +16,7 @@ use Rattle.std.specs.declared.option.Option.the-variants.{Some, None}
 use Rattle.recording.specs.Codes.{post, begin}
 use Rattle.recording.specs.declared.row.Row.{Row}
 use Rattle.happens_before.specs.Trace.{row, blank}
-use Rattle.rules.specs.Acceptance.{some, isOn, posted, begun}
+use Rattle.rules.specs.Acceptance.{isOn, posted, begun}
 use Rattle.rules.proofs.Pushes.{some-push}
 use Rattle.tables.specs.declared.tasks.Posting.{Posting}
 use Rattle.tables.specs.declared.tasks.TaskRecord.{TaskRecord}

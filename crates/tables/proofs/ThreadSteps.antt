@@ -10,26 +10,11 @@ use Rattle.std.proofs.shelf.Tests.{and-parts, or-parts, not-true, eqb-true, eq-
 use Rattle.std.specs.Options.{isSome}
 use Rattle.std.specs.declared.option.Option.{Option}
 use Rattle.std.specs.declared.option.Option.the-variants.{Some, None}
-use Rattle.recording.specs.Codes.{threadinit, threadexit, fork, join, attachQ, loopOnQ, post, begin, end}
+use Rattle.recording.specs.Codes.{threadinit, threadexit, fork, attachQ, loopOnQ, begin, end}
 use Rattle.recording.specs.declared.row.Row.{Row}
-use Rattle.rules.specs.Acceptance.{
-  some,
-  does,
-  doesOn,
-  forks,
-  created,
-  unknown,
-  started,
-  finished,
-  known,
-  queue,
-  loops,
-  current,
-  busy,
-}
+use Rattle.rules.specs.Acceptance.{some, does, doesOn, forks, created, unknown, started, finished, known, queue, current, busy}
 use Rattle.rules.proofs.Pushes.{some-push, lasting-push}
-use Rattle.tables.specs.declared.threads.Stage.{Stage}
-use Rattle.tables.specs.declared.threads.Stage.the-variants.{Unknown, Created, Running, Finished}
+use Rattle.tables.specs.declared.threads.Stage.the-variants.{Created, Running, Finished}
 use Rattle.tables.specs.declared.threads.ThreadRecord.{ThreadRecord}
 use Rattle.tables.specs.Matches.{Thread-matches}
 use Rattle.tables.specs.Records.{isOf, stageOf, threadAt}

@@ -3,67 +3,23 @@ use mathlib.Core.Path.{_≡_, refl, sym, _∙_, ap}
 use mathlib.Core.Bool.{Bool, true, false, cond, not, _&&_, _||_}
 use mathlib.Core.List.{List, [], _∷_}
 use Prim.Native.Nat.{ℕ, _<_}
-use native.Mathlib.Omega.{arith}
 use lib.Dec.{eqb}
 use lib.ListN.{length}
-use borrow.Author.Tests.{clash}
-use Rattle.std.proofs.shelf.Tests.{eqb-true, eq-eqb, ne-eqb}
+use Rattle.std.proofs.shelf.Tests.{eqb-true, eq-eqb}
 use Rattle.std.specs.Options.{isSome}
 use Rattle.std.specs.declared.option.Option.{Option}
 use Rattle.std.specs.declared.option.Option.the-variants.{Some, None}
-use Rattle.recording.specs.Codes.{
-  threadinit,
-  fork,
-  join,
-  attachQ,
-  loopOnQ,
-  post,
-  begin,
-  end,
-  acquire,
-  release,
-}
+use Rattle.recording.specs.Codes.{threadinit, fork, join, attachQ, loopOnQ, post, begin, end, acquire, release}
 use Rattle.recording.specs.Faults.{first}
 use Rattle.recording.specs.declared.row.Row.{Row}
 use Rattle.happens_before.specs.Trace.{row, item}
-use Rattle.rules.specs.Acceptance.{
-  some-below,
-  isOn,
-  postsTo,
-  created,
-  running,
-  unknown,
-  started,
-  known,
-  finished,
-  queue,
-  loops,
-  current,
-  busy,
-  posted,
-  waits,
-  holds,
-  held-by-another,
-  overtakes,
-  thread-not-ready,
-  wrong-target,
-  wrong-queue,
-  wrong-lock,
-  out-of-turn,
-}
-use Rattle.rules.specs.declared.faults.StateFault.the-variants.{
-  ThreadNotReady,
-  WrongTarget,
-  WrongQueue,
-  WrongLock,
-  OutOfTurn,
-  NotAdmitted,
-}
+use Rattle.rules.specs.Acceptance.{some-below, isOn, postsTo, created, running, unknown, started, known, finished, current, busy, waits, holds, held-by-another, overtakes, thread-not-ready, wrong-target, wrong-queue, wrong-lock, out-of-turn}
+use Rattle.rules.specs.declared.faults.StateFault.the-variants.{ThreadNotReady, WrongTarget, WrongQueue, WrongLock, OutOfTurn, NotAdmitted}
 use Rattle.rules.proofs.Pushes.{some-below-true, some-below-false}
 use Rattle.tables.specs.declared.tables.Tables.{Tables}
 use Rattle.tables.specs.declared.threads.Stage.{Stage}
 use Rattle.tables.specs.Judging.{notReady, wrongTarget, wrongQueue, wrongLock, outOfTurn, verdict}
-use Rattle.tables.specs.Matches.{Matches, Thread-matches, Lock-matches, Task-matches, free, tableRefusal}
+use Rattle.tables.specs.Matches.{Matches, Thread-matches, free, tableRefusal}
 use Rattle.tables.specs.Records.{isOf, isOther, waitsAt, stageOf, isUnknown, isCreated, isRunning, isFinished, threadAt, holderAt, taskAt}
 use Rattle.tables.proofs.Bools.{or-false, and-false, guarded}
 use Rattle.tables.proofs.Passed.{Bounded}

@@ -32,17 +32,20 @@ use Rattle.tables.specs.declared.tasks.TaskRecord.{TaskRecord}
 use Rattle.tables.specs.declared.threads.ThreadRecord.{ThreadRecord}
 use Rattle.tables.specs.Records.{isOf, isOther, waitsAt, isUnknown, isCreated, isRunning, isFinished, threadAt, holderAt, taskAt}
 
+-- why a post to the target is turned away
 abbrev pub postFault : ThreadRecord → TaskRecord → Option StateFault
 postFault target task =
     first
     ((not (isRunning (target .stage) && target .queue), WrongTarget) ∷ (isSome (task .posting), OutOfTurn) ∷ [])
 
+-- why a begin by the thread is turned away
 abbrev pub beginFault : ThreadRecord → ℕ → TaskRecord → Option StateFault
 beginFault own thread task =
     first
     ((not (own .looping), WrongQueue) ∷ (isSome (own .current) || not (waitsAt task thread), OutOfTurn) ∷ [])
 
 module _ (tables : Tables) (o : Row) where
+  -- the records that an operation names
   abbrev pub own : ThreadRecord
   own = threadAt (tables .threads) (o .thread)
 
@@ -55,6 +58,7 @@ module _ (tables : Tables) (o : Row) where
   abbrev pub holder : Option ℕ
   holder = holderAt (tables .holders) (o .item)
 
+  -- the tests, and the first that applies
   abbrev pub notReady : Bool
   notReady = cond (eqb (o .code) threadinit) (not (isCreated (own .stage))) (not (isRunning (own .stage)))
 

@@ -1,4 +1,4 @@
--- Tables that agree with what is held.
+-- Tables that agree with what is held: each record says of its thread, lock or task what the definitions do.
 use mathlib.Core.Path.{_≡_}
 use mathlib.Core.Bool.{Bool, true, false, _&&_}
 use mathlib.Core.List.{List}
@@ -52,6 +52,7 @@ pub record Task-matches (held : List Row) (p : ℕ) (r : TaskRecord) : Type 0 wh
   pub begun-is : r .begun ≡ begun held p
 
 pub record Matches (initial : ℕ → Bool) (held : List Row) (tables : Tables) : Type 0 where
+  -- every thread, lock and task has a place
   pub whole : (length (tables .threads) ≡ 64) × (length (tables .holders) ≡ 64) × (length (tables .tasks) ≡ 512)
   pub threads-match : (t : ℕ) → t < 64 → Thread-matches initial held t (threadAt (tables .threads) t)
   pub locks-match : (k : ℕ) → k < 64 → Lock-matches held k (holderAt (tables .holders) k)

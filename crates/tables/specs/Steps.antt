@@ -1,27 +1,16 @@
 -- What an accepted operation makes of the records.
-use mathlib.Core.Bool.{Bool, true, false, cond, _&&_, _||_}
+use mathlib.Core.Bool.{true, cond, _||_}
 use mathlib.Core.List.{List, map}
 use Prim.Native.Nat.{ℕ}
 use lib.Dec.{eqb, ltb}
-use lib.ListN.{getD, set}
+use lib.ListN.{set}
 use Rattle.std.specs.declared.option.Option.{Option}
 use Rattle.std.specs.declared.option.Option.the-variants.{Some, None}
-use Rattle.recording.specs.Codes.{
-  threadinit,
-  threadexit,
-  fork,
-  attachQ,
-  loopOnQ,
-  post,
-  begin,
-  end,
-  acquire,
-  release,
-}
+use Rattle.recording.specs.Codes.{threadinit, threadexit, fork, attachQ, loopOnQ, post, begin, end, acquire, release}
 use Rattle.recording.specs.declared.row.Row.{Row}
 use Rattle.tables.specs.declared.tasks.Posting.{Posting}
 use Rattle.tables.specs.declared.tasks.TaskRecord.{TaskRecord}
-use Rattle.tables.specs.declared.threads.Stage.the-variants.{Unknown, Created, Running, Finished}
+use Rattle.tables.specs.declared.threads.Stage.the-variants.{Created, Running, Finished}
 use Rattle.tables.specs.declared.threads.ThreadRecord.{ThreadRecord}
 use Rattle.tables.specs.Records.{isOf, taskAt}
 

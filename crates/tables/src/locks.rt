@@ -1,6 +1,5 @@
 //! The holder of each lock.
 ghost use mathlib.Core.Path.{_≡_};
-ghost use mathlib.Core.Bool.{not};
 ghost use mathlib.Core.List.{map};
 ghost use Rattle.recording.specs.Rows.{rowOf};
 ghost use Rattle.tables.specs.Records.{isOf, isOther};

@@ -30,6 +30,7 @@ mod judging;
 #[derive(Clone, Copy)]
 pub struct Tables {
     threads: [ThreadRecord; 64],
+    /// The thread that holds each lock.
     holders: [Option<u8>; 64],
     tasks: [TaskRecord; 512],
 }
@@ -62,7 +63,7 @@ impl Tables {
         tables
     }
 
-    /// Why the tables turn the operation away.
+    /// Why the operation is turned away, whatever the discipline and however many are held.
     pub fn judge(&self, operation: Operation) -> Option<StateFault>
         ensures { λ r. ⌜ ((initial : ℕ → Bool) (held : List Row) → Matches initial held (now (self .entry)) → r ≡ tableRefusal initial held (operation .row)) ⌝ }
     {

@@ -1,9 +1,6 @@
 //! The record of a task.
 ghost use mathlib.Core.Path.{_≡_};
-ghost use mathlib.Core.Bool.{cond, not, _&&_};
 ghost use Prim.Native.Nat.{ℕ};
-ghost use lib.Dec.{eqb, ltb};
-ghost use Rattle.std.specs.declared.option.Option.the-variants.{Some, None};
 ghost use Rattle.recording.specs.Rows.{rowOf};
 ghost use Rattle.tables.specs.Records.{waitsAt};
 ghost use Rattle.tables.specs.Steps.{postedAt, retasked};
@@ -23,7 +20,7 @@ pub struct TaskRecord {
 }
 
 impl Posting {
-    /// The post at a position, below 512 as all are.
+    /// The post at a position; all positions are below 512.
     fn at(position: usize, target: u8) -> Option<Posting>
         ensures { λ r. ⌜ r ≡ postedAt position target ⌝ }
     {

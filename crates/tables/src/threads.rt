@@ -1,6 +1,5 @@
 //! The record of a thread.
 ghost use mathlib.Core.Path.{_≡_};
-ghost use mathlib.Core.Bool.{Bool};
 ghost use Prim.Native.Nat.{ℕ};
 ghost use Rattle.recording.specs.Rows.{rowOf};
 ghost use Rattle.tables.specs.Records.{isOf, isUnknown, isCreated, isRunning, isFinished};

@@ -1,5 +1,5 @@
 use native.Mathlib.Omega.{arith}
-use mathlib.Core.Path.{_≡_, refl, ap, ap₂, _∙_}
+use mathlib.Core.Path.{ap, ap₂, _∙_}
 use mathlib.Core.List.{map, _++_, append-nil}
 use Prim.Native.Nat.{_<_, _≤_}
 use lib.ListN.{length, set, length-set}

@@ -1,6 +1,6 @@
-use mathlib.Core.Path.{_≡_, sym, _∙_, ap, subst}
+use mathlib.Core.Path.{_≡_, _∙_, ap, subst}
 use Prim.Native.Nat.{_<_}
-use lib.ListN.{length, set}
+use lib.ListN.{set}
 use Rattle.recording.specs.Rows.{rowOf}
 use Rattle.tables.specs.Records.{threadAt}
 use Rattle.tables.specs.Steps.{changed, stepped, relocked, retasked}

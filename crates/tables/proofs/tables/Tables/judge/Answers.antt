@@ -1,4 +1,4 @@
-use mathlib.Core.Path.{sym, _∙_, ap}
+use mathlib.Core.Path.{_∙_, ap}
 use Rattle.recording.specs.Rows.{rowOf}
 use Rattle.tables.specs.Judging.{verdict}
 use Rattle.tables.proofs.Passed.{bounded}
