@@ -28,7 +28,7 @@ use Rattle.rules.specs.Fair.{Fair-tables}
 use Rattle.rules.proofs.Fair.{tables-cut, posted-first, all-in-range}
 use Rattle.index.specs.Indexed.{memberAt}
 use Rattle.index.proofs.Kept.{row-earlier, row-newest}
-use Rattle.ordering.specs.Columns.{pairsIn, Right}
+use Rattle.rules.specs.Columns.{pairsIn, Right}
 use Rattle.ordering.specs.Directly.{Directly}
 use Rattle.ordering.proofs.Bridge.{directly-sound, directly-full}
 use Rattle.ordering.proofs.Members.{same-tests, member-sound}

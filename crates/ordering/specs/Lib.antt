@@ -1,2 +1,1 @@
 pub mod Directly
-pub mod Columns

@@ -18,7 +18,7 @@ ghost use Rattle.rules.specs.Fair.{Fair-tables};
 ghost use Rattle.rules.specs.Options.{isOf};
 ghost use Rattle.tables.specs.Matches.{Matches};
 ghost use Rattle.index.specs.Indexed.{Indexed, memberAt};
-ghost use Rattle.ordering.specs.Columns.{pairsIn, Right};
+ghost use Rattle.rules.specs.Columns.{pairsIn, Right};
 ghost use Rattle.ordering.specs.Directly.{Begun-after, Task-before, Directly};
 use crate::handover::add_handovers;
 use columns::closing::close;

@@ -9,7 +9,7 @@ ghost use Rattle.happens_before.specs.Theorems.{All-in-range};
 ghost use Rattle.columns.specs.Positions.{has};
 ghost use Rattle.tables.specs.Matches.{Matches};
 ghost use Rattle.index.specs.Indexed.{Indexed};
-ghost use Rattle.ordering.specs.Columns.{pairsIn};
+ghost use Rattle.rules.specs.Columns.{pairsIn};
 ghost use Rattle.ordering.specs.Directly.{Hands, Ended, Handed};
 use columns::column::Column;
 use dispatch::discipline::Discipline;

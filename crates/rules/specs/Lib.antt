@@ -1,5 +1,6 @@
 pub mod Numbers
 pub mod Options
+pub mod Columns
 pub mod Acceptance
 pub mod Fair
 pub mod Answers

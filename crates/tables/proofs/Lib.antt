@@ -1,9 +1,8 @@
 mod Bools
 mod Passed
-mod Verdicts
+pub mod Verdicts
 mod ThreadSteps
 mod LockSteps
 mod TaskSteps
 mod Agreement
 pub mod Refusals
-pub mod Fairness

@@ -15,7 +15,8 @@ use Rattle.recording.specs.declared.row.Row.{Row}
 use Rattle.rules.specs.Acceptance.{does, doesOn, holds, held-by-another}
 use Rattle.rules.proofs.Pushes.{lasting-push}
 use Rattle.tables.specs.Matches.{Lock-matches}
-use Rattle.tables.specs.Records.{isOf, isOther, holderAt}
+use Rattle.rules.specs.Options.{isOf}
+use Rattle.tables.specs.Records.{isOther, holderAt}
 use Rattle.tables.specs.Steps.{freed, relocked}
 use Rattle.tables.proofs.Bools.{or-false, and-true, and-false, written}
 use Rattle.tables.proofs.Passed.{Bounded, Accepted}

@@ -17,7 +17,8 @@ use Rattle.rules.proofs.Pushes.{some-push, lasting-push}
 use Rattle.tables.specs.declared.threads.Stage.the-variants.{Created, Running, Finished}
 use Rattle.tables.specs.declared.threads.ThreadRecord.{ThreadRecord}
 use Rattle.tables.specs.Matches.{Thread-matches}
-use Rattle.tables.specs.Records.{isOf, stageOf, threadAt}
+use Rattle.rules.specs.Options.{isOf}
+use Rattle.tables.specs.Records.{stageOf, threadAt}
 use Rattle.tables.specs.Steps.{changed, stepped}
 use Rattle.tables.proofs.Bools.{or-false, or-comm, and-true, and-false, updated}
 use Rattle.tables.proofs.Passed.{Bounded, Accepted}

@@ -20,7 +20,8 @@ use Rattle.tables.specs.declared.tables.Tables.{Tables}
 use Rattle.tables.specs.declared.threads.Stage.{Stage}
 use Rattle.tables.specs.Judging.{notReady, wrongTarget, wrongQueue, wrongLock, outOfTurn, verdict}
 use Rattle.tables.specs.Matches.{Matches, Thread-matches, free, tableRefusal}
-use Rattle.tables.specs.Records.{isOf, isOther, waitsAt, stageOf, isUnknown, isCreated, isRunning, isFinished, threadAt, holderAt, taskAt}
+use Rattle.rules.specs.Options.{isOf}
+use Rattle.tables.specs.Records.{isOther, waitsAt, stageOf, isUnknown, isCreated, isRunning, isFinished, threadAt, holderAt, taskAt}
 use Rattle.tables.proofs.Bools.{or-false, and-false, guarded}
 use Rattle.tables.proofs.Passed.{Bounded}
 

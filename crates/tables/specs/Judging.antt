@@ -30,7 +30,8 @@ use Rattle.rules.specs.declared.faults.StateFault.the-variants.{
 use Rattle.tables.specs.declared.tables.Tables.{Tables}
 use Rattle.tables.specs.declared.tasks.TaskRecord.{TaskRecord}
 use Rattle.tables.specs.declared.threads.ThreadRecord.{ThreadRecord}
-use Rattle.tables.specs.Records.{isOf, isOther, waitsAt, isUnknown, isCreated, isRunning, isFinished, threadAt, holderAt, taskAt}
+use Rattle.rules.specs.Options.{isOf}
+use Rattle.tables.specs.Records.{isOther, waitsAt, isUnknown, isCreated, isRunning, isFinished, threadAt, holderAt, taskAt}
 
 -- why a post to the target is turned away
 abbrev pub postFault : ThreadRecord → TaskRecord → Option StateFault

@@ -32,7 +32,8 @@ use Rattle.rules.specs.Acceptance.{
 use Rattle.tables.specs.declared.tables.Tables.{Tables}
 use Rattle.tables.specs.declared.tasks.TaskRecord.{TaskRecord}
 use Rattle.tables.specs.declared.threads.ThreadRecord.{ThreadRecord}
-use Rattle.tables.specs.Records.{isOf, postedTo, standsAt, stageOf, threadAt, holderAt, taskAt}
+use Rattle.rules.specs.Options.{isOf}
+use Rattle.tables.specs.Records.{postedTo, standsAt, stageOf, threadAt, holderAt, taskAt}
 
 pub record Thread-matches (initial : ℕ → Bool) (held : List Row) (t : ℕ) (r : ThreadRecord) : Type 0 where
   pub stage-is : r .stage ≡ stageOf (finished held t) (started held t) (known held initial t)
@@ -65,10 +66,3 @@ free initial = record { initial = initial; admission = λ _. true; precedence = 
 -- what an operation is refused for, however many are held and whatever the discipline
 unfoldable pub tableRefusal : (ℕ → Bool) → List Row → Row → Option StateFault
 tableRefusal initial held o = first (drop 1 (stateTests (free initial) held o))
-
--- lawful rows, each accepted on those before it
-abbrev pub Fair : (ℕ → Bool) → List Row → Type 0
-Fair initial rows =
-    (i : ℕ)
-    → i < length rows
-    → (lawful (row rows i) ≡ true) × (tableRefusal initial (take i rows) (row rows i) ≡ None)

@@ -59,11 +59,6 @@ isFinished Finished = true
 
 -- ---- What a record may lack
 
--- it is the number n
-abbrev pub isOf : Option ℕ → ℕ → Bool
-isOf None n = false
-isOf (Some m) n = eqb m n
-
 -- it is another number than n
 abbrev pub isOther : Option ℕ → ℕ → Bool
 isOther None n = false

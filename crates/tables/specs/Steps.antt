@@ -12,7 +12,8 @@ use Rattle.tables.specs.declared.tasks.Posting.{Posting}
 use Rattle.tables.specs.declared.tasks.TaskRecord.{TaskRecord}
 use Rattle.tables.specs.declared.threads.Stage.the-variants.{Created, Running, Finished}
 use Rattle.tables.specs.declared.threads.ThreadRecord.{ThreadRecord}
-use Rattle.tables.specs.Records.{isOf, taskAt}
+use Rattle.rules.specs.Options.{isOf}
+use Rattle.tables.specs.Records.{taskAt}
 
 -- ---- Threads
 

@@ -2,6 +2,4 @@
 mod locks;
 pub mod tables;
 pub mod tasks;
-#[cfg(test)]
-mod tests;
 pub mod threads;

@@ -2,7 +2,8 @@
 ghost use mathlib.Core.Path.{_≡_};
 ghost use mathlib.Core.List.{map};
 ghost use Rattle.recording.specs.Rows.{rowOf};
-ghost use Rattle.tables.specs.Records.{isOf, isOther};
+ghost use Rattle.rules.specs.Options.{isOf};
+ghost use Rattle.tables.specs.Records.{isOther};
 ghost use Rattle.tables.specs.Steps.{freed, relocked};
 use recording::action::Action;
 

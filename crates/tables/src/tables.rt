@@ -1,6 +1,6 @@
 //! The tables of threads, locks and tasks.
 ghost use mathlib.Core.Path.{_≡_};
-ghost use mathlib.Core.Bool.{Bool, cond};
+ghost use mathlib.Core.Bool.{Bool, cond, _&&_};
 ghost use mathlib.Core.List.{List, [], _∷_, _++_};
 ghost use Prim.Native.Nat.{ℕ, _<_, _≤_};
 ghost use lib.Dec.{ltb};
@@ -9,8 +9,8 @@ ghost use Rattle.std.specs.declared.option.Option.the-variants.{None};
 ghost use Rattle.recording.specs.Rows.{rowOf};
 ghost use Rattle.recording.specs.declared.row.Row.{Row};
 ghost use Rattle.rules.specs.Acceptance.{bit};
-ghost use Rattle.tables.specs.Matches.{Fair, Matches, tableRefusal};
-ghost use Rattle.tables.specs.Records.{threadAt, taskAt, unstarted};
+ghost use Rattle.tables.specs.Matches.{Matches, tableRefusal};
+ghost use Rattle.tables.specs.Records.{threadAt, taskAt, unstarted, waitsAt};
 ghost use Rattle.tables.specs.Steps.{changed};
 use crate::locks;
 use crate::tasks;
@@ -50,19 +50,6 @@ impl Tables {
         }
     }
 
-    /// The tables of held operations; a row that is no operation is passed over.
-    pub fn rebuild(mask: u64, rows: &[Row]) -> Self
-        ensures { λ r. ⌜ (Fair (bit mask) (now (rows .entry)) → length (now (rows .entry)) ≤ 512 → Matches (bit mask) (now (rows .entry)) r) ⌝ }
-    {
-        let mut tables = Tables::new(mask);
-        for (position, row) in rows.iter().enumerate() {
-            if let Ok(operation) = Operation::from_row(*row) {
-                tables.accept(operation, position);
-            }
-        }
-        tables
-    }
-
     /// Why the operation is turned away, whatever the discipline and however many are held.
     pub fn judge(&self, operation: Operation) -> Option<StateFault>
         ensures { λ r. ⌜ ((initial : ℕ → Bool) (held : List Row) → Matches initial held (now (self .entry)) → r ≡ tableRefusal initial held (operation .row)) ⌝ }
@@ -87,6 +74,20 @@ impl Tables {
         ensures { λ r. ⌜ r ≡ threadAt (now (self .entry) .threads) (thread .number) .current ⌝ }
     {
         self.threads[thread.number() as usize].current
+    }
+
+    /// Whether the thread loops on its queue.
+    pub fn is_looping(&self, thread: Thread) -> bool
+        ensures { λ r. ⌜ r ≡ threadAt (now (self .entry) .threads) (thread .number) .looping ⌝ }
+    {
+        self.threads[thread.number() as usize].looping
+    }
+
+    /// Whether the task with this number waits at the thread; there are no tasks from 512 on.
+    pub fn waits(&self, thread: Thread, task: u16) -> bool
+        ensures { λ r. ⌜ r ≡ (ltb task 512 && waitsAt (taskAt (now (self .entry) .tasks) task) (thread .number)) ⌝ }
+    {
+        task < 512 && self.tasks[task as usize].waits_at(thread.number())
     }
 
     /// The post of the task with this number; there are no tasks from 512 on.

@@ -2,7 +2,8 @@
 ghost use mathlib.Core.Path.{_≡_};
 ghost use Prim.Native.Nat.{ℕ};
 ghost use Rattle.recording.specs.Rows.{rowOf};
-ghost use Rattle.tables.specs.Records.{isOf, isUnknown, isCreated, isRunning, isFinished};
+ghost use Rattle.rules.specs.Options.{isOf};
+ghost use Rattle.tables.specs.Records.{isUnknown, isCreated, isRunning, isFinished};
 ghost use Rattle.tables.specs.Steps.{stepped};
 use recording::action::Action;
 use recording::numbers::Task;

@@ -8,7 +8,7 @@ use Rattle.std.proofs.shelf.Tests.{cond-true}
 use Rattle.std.specs.declared.option.Option.the-variants.{None}
 use Rattle.happens_before.specs.Trace.{Posts}
 use Rattle.tables.specs.Records.{taskAt}
-use Rattle.ordering.specs.Columns.{pairsIn}
+use Rattle.rules.specs.Columns.{pairsIn}
 use Rattle.ordering.specs.Directly.{Handed}
 use Rattle.ordering.proofs.Postings.{posted-at, posted-there, posted-never}
 use Rattle.ordering.proofs.column.add_begin.Needs as need

@@ -10,7 +10,7 @@ use Rattle.recording.specs.Rows.{rowOf}
 use Rattle.rules.specs.Options.{isOf}
 use Rattle.index.specs.Given.{kindly}
 use Rattle.index.specs.Indexed.{unloopedAt}
-use Rattle.ordering.specs.Columns.{pairsIn}
+use Rattle.rules.specs.Columns.{pairsIn}
 use Rattle.ordering.specs.Directly.{Begun-after}
 use Rattle.ordering.proofs.Collected.{only-begin, no-begin, with-begin}
 use Rattle.ordering.proofs.column.directly.Needs as need

@@ -8,7 +8,7 @@ use borrow.Author.Tests.{both-ways, eqb-true, eq-eqb, lt-ltb}
 use Rattle.std.proofs.shelf.Tests.{and-parts, and-from, or-cases, or-left, or-right}
 use Rattle.columns.specs.declared.column.Column.{Column}
 use Rattle.columns.specs.Positions.{has}
-use Rattle.ordering.specs.Columns.{pairsIn}
+use Rattle.rules.specs.Columns.{pairsIn}
 use Rattle.ordering.specs.Directly.{Ended}
 use Rattle.ordering.proofs.Gathered.{So-far, gather-yes, gather-no}
 use Rattle.ordering.proofs.handover.add_handovers.Needs as need

@@ -6,7 +6,7 @@ use Rattle.columns.specs.Positions.{has}
 use Rattle.happens_before.specs.Theorems.{All-in-range}
 use Rattle.tables.specs.Matches.{Matches}
 use Rattle.index.specs.Indexed.{Indexed}
-use Rattle.ordering.specs.Columns.{pairsIn}
+use Rattle.rules.specs.Columns.{pairsIn}
 use Rattle.ordering.specs.Directly.{Ended}
 use Rattle.ordering.proofs.Gathered.{So-far}
 use Rattle.ordering.proofs.handover.add_handovers.Given as given

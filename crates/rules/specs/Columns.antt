@@ -1,4 +1,4 @@
--- Columns of positions as pairs.
+-- Predecessor columns: for each held position, what is before it.
 use mathlib.Core.Path.{_≡_}
 use mathlib.Core.Bool.{true}
 use mathlib.Core.List.{List}
@@ -11,10 +11,10 @@ use Rattle.columns.specs.Positions.{has}
 use Rattle.columns.specs.Sweep.{columnAt}
 use Rattle.happens_before.specs.Order.{Precedence, Pairs, Before}
 
--- the pairs (i, k) with i in the column of k
+-- the pairs that the columns hold
 abbrev pub pairsIn : List Column → Pairs
 pairsIn columns i k = has (columnAt columns k) i
 
--- the column of each held position has what is before it
+-- the column of each held position has just what is before it
 abbrev pub Right : Precedence → List Row → List Column → Type 0
 Right D held columns = (i k : ℕ) → k < length held → (pairsIn columns i k ≡ true) ↔ Before D held i k

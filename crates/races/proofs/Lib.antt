@@ -1,0 +1,4 @@
+pub mod Nearests
+pub mod Classes
+mod Gathered
+pub mod Listing
