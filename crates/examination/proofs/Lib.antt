@@ -1,1 +1,4 @@
 mod Allowed
+mod Nothing
+mod Turns
+mod Refused

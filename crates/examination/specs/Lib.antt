@@ -1,1 +1,3 @@
 pub mod Follows
+pub mod Sound
+pub mod Exact

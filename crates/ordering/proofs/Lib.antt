@@ -1,6 +1,6 @@
 pub mod Members
 pub mod Bridge
 mod Gathered
-mod Postings
+pub mod Postings
 mod Collected
 mod Closed

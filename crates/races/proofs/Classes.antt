@@ -1,41 +1,38 @@
 -- The tests on rows, columns and nearest posts tell which operations race, and of which class.
 use mathlib.Core.Path.{_≡_, refl, sym, _∙_, subst, ap}
-use mathlib.Core.Bool.{Bool, true, false, not, cond, _&&_, _||_}
+use mathlib.Core.Bool.{Bool, true, false, not, cond, _&&_}
 use mathlib.Core.List.{List, []}
 use mathlib.Core.Logic.{_⊎_, inl, inr, ⊎-elim, _↔_}
-use Prim.Native.Nat.{ℕ, _<_, _≤_, min, max, _/_, _%_, _^_}
+use Prim.Native.Nat.{ℕ, _<_, _≤_, min, max}
 use native.Mathlib.Nat.{zero-div}
 use native.Mathlib.Omega.{arith}
-use lib.Dec.{eqb, ltb}
+use lib.Dec.{ltb}
 use lib.ListN.{length}
-use borrow.Author.Tests.{eqb-true, eq-eqb, eqb-false, ne-eqb, not-true, both-ways, clash, lt-ltb, ltb-true}
+use borrow.Author.Tests.{eqb-true, eq-eqb, not-false, both-ways, clash, lt-ltb, ltb-true}
 use Rattle.std.specs.declared.option.Option.{Option}
 use Rattle.std.specs.declared.option.Option.the-variants.{Some, None}
 use Rattle.std.proofs.shelf.Lists.{getD-past}
-use Rattle.std.proofs.shelf.Tests.{and-parts, and-from, and-right, and-cases, not-from-false, cases-bool, cond-true, cond-false}
+use Rattle.std.proofs.shelf.Tests.{and-parts, and-from, and-right}
 use Rattle.std.proofs.shelf.Ways.{decides-eqb, decides-and, decides-or, decides-not, decides-like}
 use Rattle.recording.specs.Codes.{read, write}
 use Rattle.recording.specs.declared.row.Row.{Row}
 use Rattle.columns.specs.declared.column.Column.{Column}
-use Rattle.columns.specs.Positions.{has, bit}
-use Rattle.columns.specs.Sweep.{columnAt}
-use Rattle.happens_before.specs.Trace.{row, code, thread, item}
+use Rattle.columns.specs.Positions.{has}
+use Rattle.happens_before.specs.Trace.{row, code, thread}
 use Rattle.happens_before.specs.Order.{Precedence, Before, Lacked}
 use Rattle.happens_before.specs.Race.{Conflict, Race, Nearest, Environment, Delayed, Foreign, Apart}
 use Rattle.happens_before.specs.Race.{Multi-threaded, Co-enabled, Delay-apart, Cross-posted, Class, multi-threaded, co-enabled, delayed, cross-posted, unknown}
 use Rattle.happens_before.specs.Theorems.{Posted-first}
-use Rattle.happens_before.proofs.Columns.{hb}
 use Rattle.happens_before.proofs.Least.{before-hb, lacked-hb}
 use Rattle.happens_before.proofs.Races.{nearest-earlier}
 use Rattle.rules.specs.Answers.{Classed, no-race, race}
 use Rattle.rules.specs.Columns.{pairsIn, Right}
 use Rattle.rules.specs.Numbers.{raceNumber, classNumber}
-use Rattle.rules.specs.Options.{isOf}
 use Rattle.rules.specs.declared.race.RaceClass.{RaceClass}
 use Rattle.rules.specs.declared.race.RaceClass.the-variants.{MultiThreaded, CoEnabled, Delayed as IsDelayed, CrossPosted, Unknown}
 use Rattle.races.specs.declared.nearest.NearestPosts.{NearestPosts}
 use Rattle.races.specs.Chains.{nearestAt, Finds, Nearest-right}
-use Rattle.races.specs.Classes.{accesses, conflicting, racing, differs, unordered, classAt}
+use Rattle.races.specs.Classes.{conflicting, racing, differs, unordered, classAt}
 use Rattle.races.proofs.Nearests.{ne-true}
 
 -- ---- Columns
@@ -176,14 +173,10 @@ module _
         (λ b h. let e = nearest-earlier held posted (Environment held) h u in omega arith))
         (differs-is held (Delayed held) i j (nearestAt nearests i .delayed) (nearestAt nearests j .delayed) (p .delayed) (q .delayed))
         (λ m.
-        let t : thread held j ≡ thread held i = sym (eqb-true _ _ (not-false′ _ m)) in
+        let t : thread held j ≡ thread held i = sym (eqb-true _ _ (not-false _ m)) in
         differs-is held (Foreign held (thread held i)) i j (nearestAt nearests i .foreign) (nearestAt nearests j .foreign)
         (p .foreign)
         (subst (λ t. Finds (nearestAt nearests j .foreign) (Nearest held (Foreign held t) j)) t (q .foreign)))
-      where
-        not-false′ : (b : Bool) → not b ≡ false → b ≡ true
-        not-false′ true e = refl
-        not-false′ false e = absurd (clash (sym e))
 
     classed-test :
         (i j lo hi : ℕ) (b : Bool) (c : RaceClass)

@@ -6,9 +6,9 @@ use mathlib.Core.Logic.{_⊎_, inl, inr, ⊎-elim}
 use Prim.Native.Nat.{ℕ, zero, suc, _+_, _<_, _≤_}
 use native.Mathlib.Numerals.{add-one}
 use native.Mathlib.Omega.{arith}
-use lib.ListN.{length, getD, set, take, drop, length-append}
+use lib.ListN.{length, getD, set, drop, length-append}
 use lib.Seq.{drop-cons, set-at}
-use Rattle.std.proofs.shelf.Lists.{append-assoc, append-nil, length-push}
+use Rattle.std.proofs.shelf.Lists.{append-assoc, append-nil}
 use Rattle.std.proofs.shelf.Tests.{cases-eq}
 use Rattle.rules.specs.Answers.{In, here, there, Rises, Rising}
 use Rattle.rules.specs.declared.race.RaceRow.{RaceRow}

@@ -1,14 +1,13 @@
 -- What is gathered from the tests is the race list.
 use mathlib.Core.Path.{_≡_, refl, sym, _∙_, subst, ap, ap₂}
-use mathlib.Core.Bool.{Bool, true, false, not, cond, _&&_, _||_}
+use mathlib.Core.Bool.{Bool, true, false, not, _&&_}
 use mathlib.Core.List.{List, [], _∷_, _++_}
-use mathlib.Core.Logic.{_⊎_, inl, inr, ⊎-elim, _↔_}
-use Prim.Native.Nat.{ℕ, zero, suc, _+_, _<_, _≤_, min}
+use mathlib.Core.Logic.{inl, inr}
+use Prim.Native.Nat.{ℕ, _+_, _<_, _≤_, min}
 use native.Mathlib.Omega.{arith}
 use lib.Dec.{eqb}
 use lib.ListN.{length, set, take, drop}
-use borrow.Author.Tests.{clash}
-use Rattle.std.specs.declared.result.Result.the-variants.{Ok, Err}
+use Rattle.std.specs.declared.result.Result.the-variants.{Ok}
 use Rattle.std.proofs.shelf.Lists.{append-assoc, length-append, length-push, length-take-le, take-at, drop-at}
 use Rattle.std.proofs.shelf.Parts.{drop-append-drop}
 use Rattle.std.proofs.shelf.Tests.{and-left, and-right, or-parts, or-from, cond-true, cond-false}
@@ -21,8 +20,8 @@ use Rattle.happens_before.specs.Trace.{row}
 use Rattle.happens_before.specs.Order.{Precedence}
 use Rattle.happens_before.specs.Race.{Race, Class}
 use Rattle.happens_before.specs.Theorems.{Posted-first}
-use Rattle.rules.specs.Answers.{In, here, there, Rising, Rises, Race-list}
-use Rattle.rules.specs.Columns.{pairsIn, Right}
+use Rattle.rules.specs.Answers.{In, here, Rising, Race-list}
+use Rattle.rules.specs.Columns.{Right}
 use Rattle.rules.specs.Numbers.{raceNumber, Passes}
 use Rattle.rules.specs.declared.race.RaceRow.{RaceRow}
 use Rattle.races.specs.declared.nearest.NearestPosts.{NearestPosts}

@@ -1,6 +1,6 @@
 -- The nearest posts that are stored for each held position.
 use mathlib.Core.Path.{_≡_}
-use mathlib.Core.Bool.{Bool, true, not, cond}
+use mathlib.Core.Bool.{true, not, cond}
 use mathlib.Core.List.{List, [], _∷_, _++_}
 use mathlib.Core.Logic.{_↔_}
 use Prim.Native.Nat.{ℕ, _<_}
@@ -11,7 +11,7 @@ use Rattle.std.specs.declared.option.Option.{Option}
 use Rattle.std.specs.declared.option.Option.the-variants.{Some, None}
 use Rattle.recording.specs.Posts.{marksIn}
 use Rattle.recording.specs.declared.row.Row.{Row}
-use Rattle.happens_before.specs.Trace.{row, thread}
+use Rattle.happens_before.specs.Trace.{thread}
 use Rattle.happens_before.specs.Race.{Task-post, Nearest, Environment, Delayed, Foreign}
 use Rattle.happens_before.specs.Theorems.{Posted-first}
 use Rattle.rules.specs.Options.{isOf}

@@ -36,7 +36,7 @@ racesOf rows columns nearests j = gathered (raceOf rows columns nearests j) j
 abbrev pub racesBelow : List Row → List Column → List NearestPosts → ℕ → List RaceRow
 racesBelow rows columns nearests n = gathered (racesOf rows columns nearests) n
 
--- all races; no position from 512 on has any
+-- all races among the first 512 positions
 abbrev pub allRaces : List Row → List Column → List NearestPosts → List RaceRow
 allRaces rows columns nearests = racesBelow rows columns nearests (min (length rows) 512)
 

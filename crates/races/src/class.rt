@@ -12,12 +12,10 @@ ghost use Rattle.races.specs.Classes.{Where-right, accesses, conflicting, diff
 use crate::nearest::NearestPosts;
 use crate::nearest::nearest_at;
 use columns::column::Column;
+use recording::code::READ;
+use recording::code::WRITE;
 use recording::row::Row;
 use rules::race::RaceClass;
-
-const READ: u8 = 13;
-
-const WRITE: u8 = 14;
 
 /// Whether the operation reads or writes a location.
 pub(crate) fn is_access(row: Row) -> bool

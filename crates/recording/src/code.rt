@@ -2,33 +2,33 @@
 ghost use mathlib.Core.Path.{_≡_};
 ghost use Rattle.recording.specs.Codes.{known, has-target, has-task, has-lock, has-item};
 
-pub(crate) const THREADINIT: u8 = 1;
+pub const THREADINIT: u8 = 1;
 
-pub(crate) const THREADEXIT: u8 = 2;
+pub const THREADEXIT: u8 = 2;
 
-pub(crate) const FORK: u8 = 3;
+pub const FORK: u8 = 3;
 
-pub(crate) const JOIN: u8 = 4;
+pub const JOIN: u8 = 4;
 
-pub(crate) const ATTACHQ: u8 = 5;
+pub const ATTACHQ: u8 = 5;
 
-pub(crate) const LOOPONQ: u8 = 6;
+pub const LOOPONQ: u8 = 6;
 
-pub(crate) const POST: u8 = 7;
+pub const POST: u8 = 7;
 
-pub(crate) const BEGIN: u8 = 8;
+pub const BEGIN: u8 = 8;
 
-pub(crate) const END: u8 = 9;
+pub const END: u8 = 9;
 
-pub(crate) const ACQUIRE: u8 = 10;
+pub const ACQUIRE: u8 = 10;
 
-pub(crate) const RELEASE: u8 = 11;
+pub const RELEASE: u8 = 11;
 
-pub(crate) const ENABLE: u8 = 12;
+pub const ENABLE: u8 = 12;
 
-pub(crate) const READ: u8 = 13;
+pub const READ: u8 = 13;
 
-pub(crate) const WRITE: u8 = 14;
+pub const WRITE: u8 = 14;
 
 pub(crate) fn is_known(code: u8) -> bool
     ensures { λ r. ⌜ r ≡ known code ⌝ }

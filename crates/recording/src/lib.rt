@@ -1,6 +1,6 @@
 //! Recordings of crane panels: operations, their records, and the binary file.
 pub mod action;
-mod code;
+pub mod code;
 pub mod discipline;
 pub mod faults;
 pub mod header;

@@ -3,7 +3,7 @@ use mathlib.Core.List.{_++_}
 use Prim.Native.Nat.{min}
 use native.Mathlib.Omega.{arith}
 use lib.ListN.{length, drop}
-use Rattle.races.specs.Listing.{racesOf, racesBelow, allRaces}
+use Rattle.races.specs.Listing.{racesOf, racesBelow}
 use Rattle.races.proofs.Gathered.{gathered-none}
 use Rattle.races.proofs.Listing.{room-below, written-more}
 use Rattle.races.proofs.list.write_all.Needs as need

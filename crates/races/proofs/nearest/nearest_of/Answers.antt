@@ -1,9 +1,8 @@
 use mathlib.Core.Path.{_≡_, sym, _∙_, subst, ap₂}
-use mathlib.Core.List.{List, [], _∷_, _++_}
+use mathlib.Core.List.{[], _∷_, _++_}
 use native.Mathlib.Omega.{arith}
 use lib.ListN.{length}
-use Rattle.std.specs.declared.option.Option.the-variants.{Some, None}
-use Rattle.recording.specs.declared.row.Row.{Row}
+use Rattle.std.specs.declared.option.Option.the-variants.{Some}
 use Rattle.happens_before.specs.Trace.{row}
 use Rattle.happens_before.specs.Race.{Task-post}
 use Rattle.races.specs.declared.nearest.NearestPosts.{NearestPosts}
