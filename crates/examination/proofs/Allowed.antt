@@ -8,7 +8,13 @@ use Rattle.std.specs.declared.option.Option.the-variants.{Some, None}
 use Rattle.recording.specs.Codes.{post, begin, end}
 use Rattle.recording.specs.declared.row.Row.{Row}
 use Rattle.rules.specs.declared.faults.StateFault.the-variants.{
-  ThreadNotReady, WrongTarget, WrongQueue, WrongLock, OutOfTurn, NotAdmitted }
+  ThreadNotReady,
+  WrongTarget,
+  WrongQueue,
+  WrongLock,
+  OutOfTurn,
+  NotAdmitted,
+}
 use Rattle.rules.specs.Acceptance.{busy, waits, current, posted, overtakes}
 use Rattle.rules.specs.Fair.{refused-by-tables}
 use Rattle.rules.proofs.Fair.{allowed}
@@ -28,17 +34,17 @@ unfolding tableRefusal
 allowed-none initial held o h =
     let a = allowed initial held o h in
     let turn =
-      ap
-      (λ x.
-        (eqb (o .code) post && posted held (o .item))
-        || ((eqb (o .code) begin && (busy held (o .thread) || x)) || (eqb (o .code) end && not (current held (o .thread) (o .item)))))
-      (ap (λ x. not (waits held (o .thread) (o .item)) || x) (never-overtakes held (o .thread) (o .item))
-      ∙ or-none (not (waits held (o .thread) (o .item))))
-      ∙ a .in-turn
+    ap
+    (λ x.
+    (eqb (o .code) post && posted held (o .item))
+    || ((eqb (o .code) begin && (busy held (o .thread) || x)) || (eqb (o .code) end && not (current held (o .thread) (o .item)))))
+    (ap (λ x. not (waits held (o .thread) (o .item)) || x) (never-overtakes held (o .thread) (o .item))
+    ∙ or-none (not (waits held (o .thread) (o .item))))
+    ∙ a .in-turn
     in
     λ t.
     cond (a .thread-ready t) (Some ThreadNotReady)
     (cond (a .right-target t) (Some WrongTarget)
-      (cond (a .right-queue t) (Some WrongQueue)
-        (cond (a .right-lock t) (Some WrongLock)
-          (cond (turn t) (Some OutOfTurn) (cond (and-none (eqb (o .code) post) t) (Some NotAdmitted) None)))))
+    (cond (a .right-queue t) (Some WrongQueue)
+    (cond (a .right-lock t) (Some WrongLock)
+    (cond (turn t) (Some OutOfTurn) (cond (and-none (eqb (o .code) post) t) (Some NotAdmitted) None)))))

@@ -2,3 +2,5 @@ mod Allowed
 mod Nothing
 mod Turns
 mod Refused
+mod Pushed
+mod TaskPosts

@@ -17,7 +17,14 @@ use Rattle.rules.specs.Acceptance.{Setting, refusal}
 use Rattle.rules.specs.Numbers.{stateNumber}
 use Rattle.rules.specs.declared.faults.StateFault.{StateFault}
 use Rattle.rules.specs.declared.faults.StateFault.the-variants.{
-  Full, ThreadNotReady, WrongTarget, WrongQueue, WrongLock, OutOfTurn, NotAdmitted }
+  Full,
+  ThreadNotReady,
+  WrongTarget,
+  WrongQueue,
+  WrongLock,
+  OutOfTurn,
+  NotAdmitted,
+}
 use Rattle.tables.specs.Matches.{tableRefusal}
 use Rattle.tables.proofs.Refusals.{disciplineRefusal, refusal-parts}
 
@@ -61,13 +68,13 @@ module _ (s : Setting) (held : List Row) (o : Row) where
       ∙ ap (λ b. cond b (Some Full) (orElse (tableRefusal (s .initial) held o) (disciplineRefusal s held o))) (lt-leb 512 (length held) l)
 
   pub by-tables :
-    (f : Option StateFault) → length held < 512 → f ≡ tableRefusal (s .initial) held o → isSome f ≡ true → f ≡ refusal s held o
+      (f : Option StateFault) → length held < 512 → f ≡ tableRefusal (s .initial) held o → isSome f ≡ true → f ≡ refusal s held o
   by-tables f l e t =
       let g = disciplineRefusal s held o in
       sym (room l ∙ (ap (λ x. orElse x g) (sym e) ∙ ap (λ b. cond b f g) t))
 
   pub by-discipline :
-    (f g : Option StateFault) → length held < 512 → f ≡ tableRefusal (s .initial) held o → isSome f ≡ false
-    → g ≡ disciplineRefusal s held o → g ≡ refusal s held o
+      (f g : Option StateFault) → length held < 512 → f ≡ tableRefusal (s .initial) held o → isSome f ≡ false
+      → g ≡ disciplineRefusal s held o → g ≡ refusal s held o
   by-discipline f g l e t d =
       d ∙ sym (room l ∙ (ap (λ x. orElse x (disciplineRefusal s held o)) (sym e) ∙ ap (λ b. cond b f (disciplineRefusal s held o)) t))

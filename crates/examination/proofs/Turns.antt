@@ -22,21 +22,21 @@ module _ (held : List Row) (p : ℕ) (ahead : ℕ → ℕ → Bool) where
 
   -- where every post of the task leaves the test false, so does the whole
   pub none-ahead :
-    ((b : ℕ) → Posts held b p → some-below b (ahead b) ≡ false)
-    → false ≡ some-below (length held) (λ b. isOn post p (row held b) && some-below b (ahead b))
+      ((b : ℕ) → Posts held b p → some-below b (ahead b) ≡ false)
+      → false ≡ some-below (length held) (λ b. isOn post p (row held b) && some-below b (ahead b))
   none-ahead none =
       sym
       (some-below-false (length held) _
-        (λ b l.
-          ⊎-elim
-          (λ (e : isOn post p (row held b) ≡ true). (λ t. e t && none b (posts-so b e) t))
-          (λ e. and-left _ _ e)
-          (cases-bool (isOn post p (row held b)))))
+      (λ b l.
+      ⊎-elim
+      (λ (e : isOn post p (row held b) ≡ true). (λ t. e t && none b (posts-so b e) t))
+      (λ e. and-left _ _ e)
+      (cases-bool (isOn post p (row held b)))))
 
   pub one-ahead :
-    (b a : ℕ) → b < length held → Posts held b p → a < b → ahead b a ≡ true
-    → true ≡ some-below (length held) (λ b. isOn post p (row held b) && some-below b (ahead b))
+      (b a : ℕ) → b < length held → Posts held b p → a < b → ahead b a ≡ true
+      → true ≡ some-below (length held) (λ b. isOn post p (row held b) && some-below b (ahead b))
   one-ahead b a l (c, i) u e =
       sym
       (some-below-true (length held) _ b l
-        (and-from (isOn post p (row held b)) _ (and-from _ _ (eq-eqb _ _ c) (eq-eqb _ _ i)) (some-below-true b (ahead b) a u e)))
+      (and-from (isOn post p (row held b)) _ (and-from _ _ (eq-eqb _ _ c) (eq-eqb _ _ i)) (some-below-true b (ahead b) a u e)))

@@ -22,7 +22,12 @@ settingOf admission precedence e =
     record {
       initial = bit (e .mask);
       admission = admission (e .discipline);
-      precedence = precedence (e .discipline) }
+      precedence = precedence (e .discipline);
+    }
+
+-- the discipline and the mask are as they were
+abbrev pub Same-setting : {D : Type 0} → Examination D → Examination D → Type 0
+Same-setting e f = (f .discipline ≡ e .discipline) × (f .mask ≡ e .mask)
 
 -- the stored columns are those of the discipline's relation, and the stored nearest posts are right
 pub record Exact {D : Type 0} (precedence : D → Marks → Marks → Bool) (e : Examination D) : Type 0 where

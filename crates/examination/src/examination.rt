@@ -25,4 +25,5 @@ pub struct Examination<D> {
 }
 
 pub mod add;
+pub mod added;
 pub mod open;

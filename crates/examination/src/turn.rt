@@ -28,7 +28,14 @@ fn posts_to(row: Row, thread: Thread) -> bool
 }
 
 /// Whether the task that is posted at `earlier` waits at the thread and precedes the one that is posted at `later`.
-fn is_ahead<D: Discipline>(discipline: &D, rows: &[Row], tables: &Tables, thread: Thread, earlier: usize, later: usize) -> bool
+fn is_ahead<D: Discipline>(
+    discipline: &D,
+    rows: &[Row],
+    tables: &Tables,
+    thread: Thread,
+    earlier: usize,
+    later: usize,
+) -> bool
     requires earlier { ⌜ earlier < length (now rows) ⌝ }
     requires later { ⌜ later < length (now rows) ⌝ }
     ensures { λ r. ⌜ ((initial : ℕ → Bool) → Matches initial (now (rows .entry)) (now (tables .entry)) → All-in-range (now (rows .entry)) → r ≡ (postsTo (thread .number) (row (now (rows .entry)) earlier) && (waitsAt (now (rows .entry)) (thread .number) (item (now (rows .entry)) earlier) && D·Discipline .precedence (now (discipline .entry)) (marks (now (rows .entry)) earlier) (marks (now (rows .entry)) later)))) ⌝ }
@@ -39,7 +46,13 @@ fn is_ahead<D: Discipline>(discipline: &D, rows: &[Row], tables: &Tables, thread
 }
 
 /// Whether a task that waits at the thread, posted before this one was, precedes it.
-fn is_overtaken<D: Discipline>(discipline: &D, rows: &[Row], tables: &Tables, thread: Thread, task: Task) -> bool
+fn is_overtaken<D: Discipline>(
+    discipline: &D,
+    rows: &[Row],
+    tables: &Tables,
+    thread: Thread,
+    task: Task,
+) -> bool
     ensures { λ r. ⌜ ((initial : ℕ → Bool) → Matches initial (now (rows .entry)) (now (tables .entry)) → All-in-range (now (rows .entry)) → r ≡ overtakes (D·Discipline .precedence (now (discipline .entry))) (now (rows .entry)) (thread .number) (task .number)) ⌝ }
 {
     let Some(posting) = tables.posting(task.number()) else {
@@ -58,7 +71,12 @@ fn is_overtaken<D: Discipline>(discipline: &D, rows: &[Row], tables: &Tables, th
 }
 
 /// Why the discipline turns the operation away.
-pub(crate) fn judge_turn<D: Discipline>(discipline: &D, rows: &[Row], tables: &Tables, operation: Operation) -> Option<StateFault>
+pub(crate) fn judge_turn<D: Discipline>(
+    discipline: &D,
+    rows: &[Row],
+    tables: &Tables,
+    operation: Operation,
+) -> Option<StateFault>
     ensures { λ r. ⌜ ((s : Setting) → Matches (s .initial) (now (rows .entry)) (now (tables .entry)) → All-in-range (now (rows .entry)) → s .admission ≡ D·Discipline .admission (now (discipline .entry)) → s .precedence ≡ D·Discipline .precedence (now (discipline .entry)) → r ≡ disciplineRefusal s (now (rows .entry)) (operationRow operation)) ⌝ }
 {
     match operation.action() {

@@ -33,7 +33,8 @@ impl State {
     {
         let task = task_of(&self.tables, operation);
         let looping = self.tables.is_looping(operation.thread());
-        self.index.note_operation(operation, position, looping, task);
+        self.index
+            .note_operation(operation, position, looping, task);
         self.tables.accept(operation, position);
     }
 

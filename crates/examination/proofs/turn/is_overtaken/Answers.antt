@@ -46,9 +46,9 @@ returns-then-is-ahead g c initial matches ranged =
     let at = posted-at rows n _ is x (sym (c .in-Some .ensures tt ∙ record-is)) in
     one-ahead rows (c .args .task .number)
     (λ b a.
-      postsTo (c .args .thread .number) (row rows a)
-      && (waits rows (c .args .thread .number) (item rows a)
-        && g .D·Discipline .precedence (c .args .discipline .now) (marks rows a) (marks rows b)))
+    postsTo (c .args .thread .number) (row rows a)
+    && (waits rows (c .args .thread .number) (item rows a)
+    && g .D·Discipline .precedence (c .args .discipline .now) (marks rows a) (marks rows b)))
     (x .position) (c .loop-earlier .earlier) (at .0) (subst (Posts rows (x .position)) same (at .1)) (c .loop-earlier-test .taken)
     (sym (c .is-ahead .ensures initial matches ranged) ∙ c .if-is-ahead .taken)
 
@@ -66,14 +66,14 @@ returns g c initial matches ranged =
     let record-is = cond-true (ltb n 512) (taskAt (c .args .tables .now .tasks) n .posting) None (lt-ltb n 512 (c .number .ensures .1)) in
     let x = c .in-Some .posting in
     let ahead : ℕ → ℕ → Bool =
-      λ b a.
-      postsTo (c .args .thread .number) (row rows a)
-      && (waits rows (c .args .thread .number) (item rows a)
-        && g .D·Discipline .precedence (c .args .discipline .now) (marks rows a) (marks rows b))
+    λ b a.
+    postsTo (c .args .thread .number) (row rows a)
+    && (waits rows (c .args .thread .number) (item rows a)
+    && g .D·Discipline .precedence (c .args .discipline .now) (marks rows a) (marks rows b))
     in
     none-ahead rows (c .args .task .number) ahead
     (λ b p.
-      let q = posted-there rows n _ is x (sym (c .in-Some .ensures tt ∙ record-is)) b (subst (Posts rows b) (sym same) p) in
-      subst (λ k. some-below k (ahead k) ≡ false) q
-      (some-below-false (x .position) (ahead (x .position))
-        (λ a l. c .loop-earlier .inv initial matches ranged a (omega (arith, l, c .loop-earlier-test .left)))))
+    let q = posted-there rows n _ is x (sym (c .in-Some .ensures tt ∙ record-is)) b (subst (Posts rows b) (sym same) p) in
+    subst (λ k. some-below k (ahead k) ≡ false) q
+    (some-below-false (x .position) (ahead (x .position))
+    (λ a l. c .loop-earlier .inv initial matches ranged a (omega (arith, l, c .loop-earlier-test .left)))))

@@ -15,6 +15,6 @@ Inv-loop-earlier g l =
     → (a : ℕ)
     → a < l .earlier
     → (postsTo (l .thread .number) (row (l .rows) a)
-      && (waits (l .rows) (l .thread .number) (item (l .rows) a)
-        && g .D·Discipline .precedence (l .discipline) (marks (l .rows) a) (marks (l .rows) (l .later))))
+    && (waits (l .rows) (l .thread .number) (item (l .rows) a)
+    && g .D·Discipline .precedence (l .discipline) (marks (l .rows) a) (marks (l .rows) (l .later))))
     ≡ false

@@ -17,7 +17,8 @@ abbrev again : Marks → Marks
 again m =
     record {
       environment = eqb (marksNumber m % 2) 1;
-      delay = cond (leb 2 (marksNumber m)) (Some (delayNumber m)) None }
+      delay = cond (leb 2 (marksNumber m)) (Some (delayNumber m)) None;
+    }
 
 marks-again : (m : Marks) → again m ≡ m
 marks-again m = go (m .environment) (m .delay)
@@ -36,7 +37,7 @@ returns-then-is-overtaken g c s matches ranged admits precedes =
     let begins = sym (c .action .ensures) ∙ ap (rowOf (o .thread)) (c .in-Begin .is) in
     let answer = sym (c .is-overtaken .ensures (s .initial) matches ranged) ∙ c .if-is-overtaken .taken in
     let so : overtakes (s .precedence) held (o .thread) p ≡ true =
-      (λ x. overtakes (precedes x) held (sym (c .thread .ensures) x) p) ∙ answer
+    (λ x. overtakes (precedes x) held (sym (c .thread .ensures) x) p) ∙ answer
     in
     sym (ap (disciplineRefusal s held) begins ∙ ap (λ b. cond b (Some OutOfTurn) None) so)
 
@@ -48,7 +49,7 @@ returns-else-is-overtaken g c s matches ranged admits precedes =
     let begins = sym (c .action .ensures) ∙ ap (rowOf (o .thread)) (c .in-Begin .is) in
     let answer = sym (c .is-overtaken .ensures (s .initial) matches ranged) ∙ c .if-is-overtaken .left in
     let so : overtakes (s .precedence) held (o .thread) p ≡ false =
-      (λ x. overtakes (precedes x) held (sym (c .thread .ensures) x) p) ∙ answer
+    (λ x. overtakes (precedes x) held (sym (c .thread .ensures) x) p) ∙ answer
     in
     sym (ap (disciplineRefusal s held) begins ∙ ap (λ b. cond b (Some OutOfTurn) None) so)
 
@@ -59,8 +60,8 @@ returns-then-admits g c s matches ranged admits precedes =
     let m = c .in-Post .marks in
     let posts = sym (c .action .ensures) ∙ ap (rowOf (o .thread)) (c .in-Post .is) in
     let so : s .admission (marksIn o) ≡ true =
-      ap (λ r. s .admission (marksIn r)) posts
-      ∙ (ap (s .admission) (marks-again m) ∙ (ap (λ f. f m) admits ∙ (sym (c .admits .ensures) ∙ c .if-admits .taken)))
+    ap (λ r. s .admission (marksIn r)) posts
+    ∙ (ap (s .admission) (marks-again m) ∙ (ap (λ f. f m) admits ∙ (sym (c .admits .ensures) ∙ c .if-admits .taken)))
     in
     sym (ap (disciplineRefusal s held) posts ∙ ap (λ b. cond (not b) (Some NotAdmitted) None) (sym (ap (λ r. s .admission (marksIn r)) posts) ∙ so))
 
@@ -71,7 +72,7 @@ returns-else-admits g c s matches ranged admits precedes =
     let m = c .in-Post .marks in
     let posts = sym (c .action .ensures) ∙ ap (rowOf (o .thread)) (c .in-Post .is) in
     let so : s .admission (marksIn o) ≡ false =
-      ap (λ r. s .admission (marksIn r)) posts
-      ∙ (ap (s .admission) (marks-again m) ∙ (ap (λ f. f m) admits ∙ (sym (c .admits .ensures) ∙ c .if-admits .left)))
+    ap (λ r. s .admission (marksIn r)) posts
+    ∙ (ap (s .admission) (marks-again m) ∙ (ap (λ f. f m) admits ∙ (sym (c .admits .ensures) ∙ c .if-admits .left)))
     in
     sym (ap (disciplineRefusal s held) posts ∙ ap (λ b. cond (not b) (Some NotAdmitted) None) (sym (ap (λ r. s .admission (marksIn r)) posts) ∙ so))

@@ -27,8 +27,8 @@ returns-then-is-some g c =
     let l : length held < 512 = omega (arith, c .if-len-ge-MOST .left, c .len .ensures, e .rows .ok .0) in
     told (e .sound) _ _
     (λ known.
-      by-tables s held o _ l (c .judge-fault .ensures (bit (e .mask)) held (known .follows .matches))
-      (sym (c .is-some .ensures) ∙ c .if-is-some .taken))
+    by-tables s held o _ l (c .judge-fault .ensures (bit (e .mask)) held (known .follows .matches))
+    (sym (c .is-some .ensures) ∙ c .if-is-some .taken))
 
 pub returns : need.returns
 returns g c =
@@ -40,8 +40,8 @@ returns g c =
     let l : length held < 512 = omega (arith, c .if-len-ge-MOST .left, c .len .ensures, e .rows .ok .0) in
     told (e .sound) _ _
     (λ known.
-      let matches = subst (λ x. Matches (bit (e .mask)) x (e .state .tables)) (sym same) (known .follows .matches) in
-      let ranged = subst All-in-range (sym same) (all-in-range (bit (e .mask)) held (known .fair)) in
-      by-discipline s held o _ _ l (c .judge-fault .ensures (bit (e .mask)) held (known .follows .matches))
-      (sym (c .is-some .ensures) ∙ c .if-is-some .left)
-      (c .judge-turn .ensures s matches ranged refl refl ∙ ap (λ x. disciplineRefusal s x o) same))
+    let matches = subst (λ x. Matches (bit (e .mask)) x (e .state .tables)) (sym same) (known .follows .matches) in
+    let ranged = subst All-in-range (sym same) (all-in-range (bit (e .mask)) held (known .fair)) in
+    by-discipline s held o _ _ l (c .judge-fault .ensures (bit (e .mask)) held (known .follows .matches))
+    (sym (c .is-some .ensures) ∙ c .if-is-some .left)
+    (c .judge-turn .ensures s matches ranged refl refl ∙ ap (λ x. disciplineRefusal s x o) same))

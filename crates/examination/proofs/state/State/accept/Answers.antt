@@ -15,8 +15,9 @@ returns c =
     let tasks = c .task-of-task .ensures initial held (follows .matches) (λ e. begin-turn initial held o a e .0) in
     let own = follows .matches .threads-match (o .thread) (thread-fits o (c .args .operation .lawful)) in
     let looping =
-      c .is-looping-looping .ensures ∙ (ap (λ t. threadAt (tables .threads) t .looping) (c .thread .ensures) ∙ own .looping-is)
+    c .is-looping-looping .ensures ∙ (ap (λ t. threadAt (tables .threads) t .looping) (c .thread .ensures) ∙ own .looping-is)
     in
     record {
       matches = c .accept .ensures initial held (follows .matches) (allowed-none initial held o fine) at room;
-      indexed = c .note-operation .ensures held (follows .indexed) at room looping tasks }
+      indexed = c .note-operation .ensures held (follows .indexed) at room looping tasks;
+    }
