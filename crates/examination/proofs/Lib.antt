@@ -4,3 +4,5 @@ mod Turns
 mod Refused
 mod Pushed
 mod TaskPosts
+mod Cut
+mod Stored

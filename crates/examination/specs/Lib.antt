@@ -1,4 +1,4 @@
 pub mod Follows
 pub mod Sound
 pub mod Exact
-pub mod Adding
+pub mod Calls

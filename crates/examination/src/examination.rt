@@ -26,4 +26,8 @@ pub struct Examination<D> {
 
 pub mod add;
 pub mod added;
+pub mod class;
+pub mod cut;
+pub mod list;
 pub mod open;
+pub mod order;

@@ -9,7 +9,7 @@ ghost use Rattle.recording.specs.Recordings.{operationRow};
 ghost use Rattle.rules.specs.Acceptance.{refusal};
 ghost use Rattle.rules.specs.Answers.{Count};
 ghost use Rattle.examination.specs.Exact.{Exact, held, settingOf, Same-setting};
-ghost use Rattle.examination.specs.Adding.{Adds};
+ghost use Rattle.examination.specs.Calls.{Adds};
 use crate::chain::post_of;
 use crate::examination::Examination;
 use crate::examination::added::Added;
