@@ -3,7 +3,7 @@ ghost use mathlib.Core.Path.{_≡_};
 ghost use mathlib.Core.Bool.{Bool, _&&_};
 ghost use Prim.Native.Nat.{ℕ, _<_};
 ghost use lib.ListN.{length};
-ghost use Rattle.recording.specs.Recordings.{operationRow};
+ghost use Rattle.recording.specs.Rows.{operationRow};
 ghost use Rattle.happens_before.specs.Theorems.{All-in-range};
 ghost use Rattle.happens_before.specs.Trace.{row, item, marks};
 ghost use Rattle.rules.specs.Acceptance.{Setting, overtakes, postsTo, waits as waitsAt};

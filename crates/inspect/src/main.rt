@@ -1,7 +1,7 @@
 //! Lists the recording on standard input, or says its fault and ends with status 1.
+use files::faults::error::ReadError;
 use listing::fault::fault_line;
 use listing::inspect::inspect;
-use recording::faults::error::ReadError;
 use std::error::AnyError;
 use std::io;
 use std::io::Read;

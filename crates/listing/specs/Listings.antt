@@ -7,7 +7,7 @@ use lib.Dec.{eqb}
 use lib.ListN.{length}
 use Rattle.std.specs.Written.{decimal}
 use Rattle.recording.specs.declared.row.Row.{Row}
-use Rattle.recording.specs.Files.{Contents}
+use Rattle.files.specs.Files.{Contents}
 use Rattle.recording.specs.Texts.{disciplineName, operationText}
 
 -- a thread is initial where its bit of the mask is set

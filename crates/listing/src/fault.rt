@@ -4,9 +4,9 @@ ghost use mathlib.Core.List.{_++_};
 ghost use lib.Chars.{codes};
 ghost use Rattle.std.specs.Of.String.{string-bytes};
 ghost use Rattle.std.specs.Vec.{made};
-ghost use Rattle.recording.specs.Texts.{faultText};
-use recording::faults::read::ReadFault;
-use recording::text::fault::ReadFaultDisplay;
+ghost use Rattle.files.specs.Texts.{faultText};
+use files::faults::read::ReadFault;
+use files::faults::text::ReadFaultDisplay;
 use std::alloc::AllocError;
 use std::alloc::Global;
 

@@ -1,9 +1,9 @@
 //! A file's listing.
 ghost use Rattle.listing.specs.Inspected.{Lists};
 use crate::lines::push_lines;
-use recording::faults::error::ReadError;
-use recording::faults::error::ReadErrorFromAlloc;
-use recording::recording::Recording;
+use files::faults::error::ReadError;
+use files::faults::error::ReadErrorFromAlloc;
+use files::recording::Recording;
 use std::alloc::Global;
 
 /// The lines of what a file holds, once it was read whole and written again.

@@ -1,13 +1,6 @@
 mod PostRows
-mod LowFirst
-mod FixedLength
-mod RecordBytes
-mod Parts
+pub mod LowFirst
+pub mod FixedLength
+pub mod RecordBytes
 pub mod LawfulRows
-mod LawfulFiles
-mod ReadRows
-mod FileBytes
-mod WrittenRecords
-mod ReadBack
-mod Held
 mod OperationTexts

@@ -1,52 +1,47 @@
--- The text of an operation, from its numbers as they were read.
-use mathlib.Core.Path.{_≡_, refl, _∙_, ap}
+-- The text of an operation, part by part.
+use mathlib.Core.Path.{_≡_, sym, _∙_, ap}
 use mathlib.Core.Bool.{Bool, true, false}
-use mathlib.Core.List.{_++_}
+use mathlib.Core.List.{List, [], _++_, append-assoc}
 use Prim.Native.Nat.{ℕ}
 use lib.Chars.{codes}
-use Rattle.std.specs.Written.{decimal}
-use Rattle.std.specs.declared.option.Option.{Option}
-use Rattle.std.specs.declared.option.Option.the-variants.{Some, None}
+use Rattle.std.proofs.Writes.{wrote-none, put-is, put-more, put-to}
+use Rattle.std.specs.Written.{Plain, Put, decimal}
+use Rattle.std.specs.declared.fmt.Formatter.{Formatter}
 use Rattle.recording.specs.declared.marks.Marks.{Marks}
 use Rattle.recording.specs.declared.row.Row.{Row}
-use Rattle.recording.specs.Codes.{post}
-use Rattle.recording.specs.Posts.{marksIn, marksNumber, delayNumber}
-use Rattle.recording.specs.Rows.{plain}
-use Rattle.recording.specs.Texts.{marksText, operationText}
+use Rattle.recording.specs.Codes.{has-item, has-target}
+use Rattle.recording.specs.Posts.{marksIn}
+use Rattle.recording.specs.Texts.{further, marksText, operationName, operationText}
 
-pub plain-text :
-    (code : ℕ) {t t′ i i′ u u′ : ℕ} {r : Row} → t ≡ t′ → i ≡ i′ → u ≡ u′ → plain code t′ i′ u′ ≡ r
-    → operationText (plain code t i u) ≡ operationText r
-plain-text code p q s e = (λ k. operationText (plain code (p k) (q k) (s k))) ∙ ap operationText e
+module _ {W : Type 0} (took : W → List ℕ → W → Type 0) where
+  pub put-further :
+      (has was : Bool) (n : ℕ) (f g g′ : Formatter W) → was ≡ has → was ≡ true → g′ ≡ g → Put took f (codes "," ++ decimal n) g
+      → Put took f (further has n) g′
+  put-further has was n f g g′ e h s p =
+      put-to took f (further has n) g g′ s (put-is took f _ _ g (ap (λ b. further b n) (sym h ∙ e)) p)
 
-abbrev postRow : ℕ → ℕ → ℕ → Marks → Row
-postRow t i u m =
-    record {
-      code = post;
-      thread = t;
-      item = i;
-      target = u;
-      marks = marksNumber m;
-      reserved = 0;
-      delay = delayNumber m;
-    }
+  pub put-no-further :
+      (has was : Bool) (n : ℕ) (f g : Formatter W) → was ≡ has → was ≡ false → g ≡ f → Plain f → Put took f (further has n) g
+  put-no-further has was n f g e h s p =
+      put-to took f (further has n) f g s
+      (put-is took f [] _ f (ap (λ b. further b n) (sym h ∙ e)) (record { wrote = wrote-none took (f .writer); plain = p }))
 
-marks-text : (environment : Bool) (delay : Option ℕ) (t i u : ℕ) →
-    let m : Marks = record { environment = environment; delay = delay } in
-    marksText m ≡ marksText (marksIn (postRow t i u m))
-marks-text true None t i u = refl
-marks-text false None t i u = refl
-marks-text true (Some d) t i u = refl
-marks-text false (Some d) t i u = refl
-
-pub post-text :
-    {t t′ i i′ u u′ : ℕ} (m : Marks) {r : Row} → t ≡ t′ → i ≡ i′ → u ≡ u′ → postRow t′ i′ u′ m ≡ r
-    → codes "post("
-    ++ (decimal t ++ (codes "," ++ (decimal i ++ (codes "," ++ (decimal u ++ (marksText m ++ codes ")"))))))
-    ≡ operationText r
-post-text {t} {t′} {i} {i′} {u} {u′} m p q s e =
-    (λ k.
-    codes "post("
-    ++ (decimal (p k)
-    ++ (codes "," ++ (decimal (q k) ++ (codes "," ++ (decimal (s k) ++ (marks-text (m .environment) (m .delay) t′ i′ u′ k ++ codes ")")))))))
-    ∙ ap operationText e
+  -- the name with the thread, then the item, the target and the marks
+  pub put-operation :
+      (r r′ : Row) (name : List ℕ) (m : Marks) (f₀ f₁ f₂ f₃ f₄ : Formatter W) → r ≡ r′ → name ≡ operationName (r .code) → m ≡ marksIn r
+      → Put took f₀ (name ++ (codes "(" ++ decimal (r .thread))) f₁
+      → Put took f₁ (further (has-item (r .code)) (r .item)) f₂
+      → Put took f₂ (further (has-target (r .code)) (r .target)) f₃
+      → Put took f₃ (marksText m ++ codes ")") f₄
+      → Put took f₀ (operationText r′) f₄
+  put-operation r r′ name m f₀ f₁ f₂ f₃ f₄ e named k p q s u =
+      let rest = further (has-item (r .code)) (r .item) ++ (further (has-target (r .code)) (r .target) ++ (marksText m ++ codes ")")) in
+      put-is took f₀ ((name ++ (codes "(" ++ decimal (r .thread))) ++ rest) (operationText r′) f₄
+      (append-assoc name (codes "(" ++ decimal (r .thread)) rest
+      ∙ (λ i.
+      named i
+      ++ (codes "("
+      ++ (decimal (r .thread)
+      ++ (further (has-item (r .code)) (r .item) ++ (further (has-target (r .code)) (r .target) ++ (marksText (k i) ++ codes ")"))))))
+      ∙ ap operationText e)
+      (put-more took _ _ _ _ _ p (put-more took _ _ _ _ _ q (put-more took _ _ _ _ _ s u)))

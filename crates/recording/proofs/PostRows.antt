@@ -1,16 +1,18 @@
 -- The marks and the delay of a lawful post are those of its row.
-use mathlib.Core.Path.{_≡_, refl, sym, _∙_, ap}
-use mathlib.Core.Bool.{Bool, true, false, cond}
+use mathlib.Core.Path.{_≡_, refl, sym, _∙_, ap, subst}
+use mathlib.Core.Bool.{Bool, true, false, cond, _&&_}
 use Prim.Native.Nat.{ℕ, zero, suc, _+_, _%_, _<_, _≤_}
 use native.Mathlib.Omega.{arith}
 use lib.Dec.{eqb, leb}
-use borrow.Author.Needs.{needs}
+use borrow.Author.Tests.{leb-false, lt-leb}
 use Rattle.std.specs.declared.option.Option.the-variants.{Some, None}
 use Rattle.std.specs.Options.{valueOr}
 use Rattle.recording.specs.declared.marks.Marks.{Marks}
 use Rattle.recording.specs.declared.row.Row.{Row}
+use Rattle.recording.specs.Codes.{post}
 use Rattle.recording.specs.Posts.{marksIn, marksNumber, delayNumber}
-use Rattle.recording.specs.Lawful.{lawful}
+use Rattle.recording.specs.Lawful.{lawful, marksLimit}
+use Rattle.recording.proofs.LawfulRows.{marks-fit, no-delay, no-reserved}
 
 below-4 : (P : ℕ → Type 0) → P 0 → P 1 → P 2 → P 3 → (m : ℕ) → m ≤ 3 → P m
 below-4 P a b c d zero h = a
@@ -30,20 +32,17 @@ delay-again m d h = go (leb 2 m) refl
   where
     go : (b : Bool) → leb 2 m ≡ b → valueOr (cond b (Some d) None) 0 ≡ d
     go true e = refl
-    go false e = sym (h (search needs))
+    go false e = let l = leb-false 2 m e in sym (h (omega arith))
 
-pub few-marks : (r : Row) → r .code ≡ 7 → lawful r ≡ true → r .marks ≤ 3
-few-marks r e h = search needs
+few-marks : (r : Row) → r .code ≡ post → lawful r ≡ true → r .marks ≤ 3
+few-marks r e h = subst (λ c. r .marks ≤ marksLimit c) e (marks-fit r h)
 
-pub undelayed : (r : Row) → r .code ≡ 7 → lawful r ≡ true → r .marks ≤ 1 → r .delay ≡ 0
-undelayed r e h l = search needs
-
-no-reserve : (r : Row) → r .code ≡ 7 → lawful r ≡ true → r .reserved ≡ 0
-no-reserve r e h = search needs
+undelayed : (r : Row) → r .code ≡ post → lawful r ≡ true → r .marks ≤ 1 → r .delay ≡ 0
+undelayed r e h l = let f = lt-leb 2 (r .marks) (omega arith) in no-delay r h (λ t. eqb (e t) post && f t)
 
 pub post-again :
-    (r : Row) (p u : ℕ) (m : Marks) → r .code ≡ 7 → lawful r ≡ true → p ≡ r .item → u ≡ r .target → m ≡ marksIn r
-    → record { code = 7; thread = r .thread; item = p; target = u; marks = marksNumber m; reserved = 0; delay = delayNumber m } ≡ r
+    (r : Row) (p u : ℕ) (m : Marks) → r .code ≡ post → lawful r ≡ true → p ≡ r .item → u ≡ r .target → m ≡ marksIn r
+    → record { code = post; thread = r .thread; item = p; target = u; marks = marksNumber m; reserved = 0; delay = delayNumber m } ≡ r
 post-again r p u m c h e f g =
     let k = ap marksNumber g ∙ marks-again (r .marks) (r .delay) (few-marks r c h) in
     let d = ap delayNumber g ∙ delay-again (r .marks) (r .delay) (undelayed r c h) in
@@ -54,6 +53,6 @@ post-again r p u m c h e f g =
       item = e i;
       target = f i;
       marks = k i;
-      reserved = sym (no-reserve r c h) i;
+      reserved = sym (no-reserved r h) i;
       delay = d i;
     }

@@ -1,11 +1,9 @@
--- Each fault's number and place.
+-- The number and the place of each fault of a record.
 use mathlib.Core.Bool.{Bool, cond}
 use mathlib.Core.List.{List, [], _∷_}
 use Prim.Native.Nat.{ℕ}
 use Rattle.std.specs.declared.option.Option.{Option}
 use Rattle.std.specs.declared.option.Option.the-variants.{Some, None}
-use Rattle.recording.specs.declared.faults.file.FileFault.{FileFault}
-use Rattle.recording.specs.declared.faults.file.FileFault.the-variants.{NotARecording, Version, Discipline, Length}
 use Rattle.recording.specs.declared.faults.record.RecordFault.{RecordFault}
 use Rattle.recording.specs.declared.faults.record.RecordFault.the-variants.{
   UnknownCode,
@@ -49,16 +47,3 @@ recordByte TargetNotZero = 4
 recordByte MarksWrong = 5
 recordByte ReservedNotZero = 6
 recordByte DelayNotZero = 8
-
-abbrev pub fileNumber : FileFault → ℕ
-fileNumber NotARecording = 5
-fileNumber Version = 6
-fileNumber Discipline = 7
-fileNumber Length = 8
-
--- the first byte of the field at fault
-abbrev pub fileByte : FileFault → ℕ
-fileByte NotARecording = 0
-fileByte Version = 4
-fileByte Discipline = 3
-fileByte Length = 6

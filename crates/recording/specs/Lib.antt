@@ -6,9 +6,4 @@ pub mod Rows
 pub mod Bytes
 pub mod Records
 pub mod Disciplines
-pub mod Files
-pub mod Headers
-pub mod Reading
-pub mod Recordings
-pub mod Writing
 pub mod Texts

@@ -1,4 +1,4 @@
--- The row of an action: a field that the code lacks is zero.
+-- The row of an operation, and of an action: a field that the code lacks is zero.
 use Prim.Native.Nat.{ℕ}
 use Rattle.recording.specs.declared.action.Action.{Action}
 use Rattle.recording.specs.declared.action.Action.the-variants.{
@@ -17,6 +17,7 @@ use Rattle.recording.specs.declared.action.Action.the-variants.{
   Read,
   Write,
 }
+use Rattle.recording.specs.declared.operation.Operation.{Operation}
 use Rattle.recording.specs.declared.row.Row.{Row}
 use Rattle.recording.specs.Codes.{
   threadinit,
@@ -35,6 +36,9 @@ use Rattle.recording.specs.Codes.{
   write,
 }
 use Rattle.recording.specs.Posts.{marksNumber, delayNumber}
+
+abbrev pub operationRow : Operation → Row
+operationRow o = o .row
 
 abbrev pub plain : ℕ → ℕ → ℕ → ℕ → Row
 plain code thread item target =

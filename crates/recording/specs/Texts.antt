@@ -1,28 +1,26 @@
--- Disciplines, operations and faults as text.
+-- Disciplines and operations as text.
 use mathlib.Core.Bool.{Bool, cond}
 use mathlib.Core.List.{List, [], _∷_, _++_}
-use Prim.Native.Nat.{ℕ, _-_}
+use Prim.Native.Nat.{ℕ}
 use lib.Chars.{codes}
 use lib.ListN.{getD}
 use Rattle.std.specs.Written.{decimal}
 use Rattle.std.specs.declared.option.Option.{Option}
 use Rattle.std.specs.declared.option.Option.the-variants.{Some, None}
-use Rattle.recording.specs.declared.faults.read.ReadFault.{ReadFault}
-use Rattle.recording.specs.declared.faults.read.ReadFault.the-variants.{File, Record}
 use Rattle.recording.specs.declared.marks.Marks.{Marks}
 use Rattle.recording.specs.declared.row.Row.{Row}
 use Rattle.recording.specs.Codes.{has-item, has-target}
-use Rattle.recording.specs.Faults.{fileNumber, fileByte, recordNumber}
 use Rattle.recording.specs.Posts.{marksIn}
 
 -- by the discipline's number
 abbrev pub disciplineName : ℕ → List ℕ
 disciplineName n = getD (codes "first in first out" ∷ codes "any order" ∷ codes "timed" ∷ []) n []
 
--- in the order of their codes, from 1
+-- by their codes, from 1
 abbrev pub operationNames : List (List ℕ)
 operationNames =
-    codes "threadinit"
+    []
+    ∷ codes "threadinit"
     ∷ codes "threadexit"
     ∷ codes "fork"
     ∷ codes "join"
@@ -39,7 +37,7 @@ operationNames =
     ∷ []
 
 abbrev pub operationName : ℕ → List ℕ
-operationName code = getD operationNames (code - 1) []
+operationName code = getD operationNames code []
 
 -- a number behind a comma, where the operation has it
 abbrev pub further : Bool → ℕ → List ℕ
@@ -61,11 +59,3 @@ operationText r =
     ++ (decimal (r .thread)
     ++ (further (has-item (r .code)) (r .item)
     ++ (further (has-target (r .code)) (r .target) ++ (marksText (marksIn r) ++ codes ")")))))
-
-abbrev pub placed : List ℕ → ℕ → ℕ → List ℕ
-placed layer number place = layer ++ (codes " " ++ (decimal number ++ (codes " at " ++ decimal place)))
-
--- the layer, the number, and the header's byte or the record's number
-abbrev pub faultText : ReadFault → List ℕ
-faultText (File f) = placed (codes "file") (fileNumber f) (fileByte f)
-faultText (Record r) = placed (codes "record") (recordNumber (r .fault)) (r .number)

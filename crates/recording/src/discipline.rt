@@ -5,7 +5,7 @@ ghost use Rattle.std.specs.Options.{Cases as BySome};
 ghost use Rattle.recording.specs.Disciplines.{disciplineNumber};
 
 /// The dispatch discipline that a recording names.
-#[derive(Clone, Copy, PartialEq, Eq, Debug)]
+#[derive(Clone, Copy)]
 pub enum DisciplineKind {
     FirstInFirstOut,
     AnyOrder,

@@ -1,6 +1,2 @@
-//! Faults, a type for each layer, with their numbers and places.
-pub mod error;
-pub mod file;
-pub mod read;
+//! Faults, with their numbers and places.
 pub mod record;
-pub mod write;

@@ -4,7 +4,7 @@ ghost use Rattle.recording.specs.Posts.{marksIn};
 use crate::row::Row;
 
 /// The marks and the delay of a post: all that a dispatch discipline sees of it.
-#[derive(Clone, Copy, PartialEq, Eq, Debug)]
+#[derive(Clone, Copy)]
 pub struct Marks {
     /// The post comes from a user or system event.
     pub environment: bool,

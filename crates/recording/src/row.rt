@@ -2,7 +2,7 @@
 
 /// The numbers of one record, lawful or not: what stands at a place of any list of operations.
 /// The item is a task, a lock or a location, by the code.
-#[derive(Clone, Copy, PartialEq, Eq, Debug)]
+#[derive(Clone, Copy, PartialEq, Eq)]
 pub struct Row {
     pub code: u8,
     pub thread: u8,

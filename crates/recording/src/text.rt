@@ -1,4 +1,3 @@
-//! Disciplines, operations and faults as text.
+//! Disciplines and operations as text.
 pub mod discipline;
-pub mod fault;
 pub mod operation;

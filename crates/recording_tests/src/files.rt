@@ -1,7 +1,7 @@
 //! Headers and lengths.
-use recording::faults::error::ReadError;
-use recording::faults::read::ReadFault;
-use recording::recording::Recording;
+use files::faults::error::ReadError;
+use files::faults::read::ReadFault;
+use files::recording::Recording;
 use std::alloc::Global;
 use std::test::*;
 

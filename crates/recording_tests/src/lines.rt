@@ -1,7 +1,7 @@
 //! What `inspect` prints.
+use files::faults::error::ReadError;
 use listing::fault::fault_line;
 use listing::inspect::inspect;
-use recording::faults::error::ReadError;
 use std::alloc::Global;
 use std::test::*;
 

@@ -1,10 +1,10 @@
 //! The faults of a record, each at each of its places.
-use recording::faults::error::ReadError;
-use recording::faults::read::ReadFault;
+use files::faults::error::ReadError;
+use files::faults::read::ReadFault;
+use files::recording::Recording;
 use recording::numbers::Lock;
 use recording::numbers::Task;
 use recording::numbers::Thread;
-use recording::recording::Recording;
 use std::alloc::Global;
 use std::test::*;
 

@@ -1,15 +1,15 @@
 //! Writing, and the writer's refusals.
-use recording::faults::file::FileFault;
-use recording::faults::read::AtRecord;
+use files::faults::file::FileFault;
+use files::faults::read::AtRecord;
+use files::faults::write::WriteFault;
+use files::faults::write::WriteFaultDebug;
+use files::faults::write::WriteFaultPartialEq;
+use files::recording::Recording;
+use files::recording::said::copy;
+use files::writer::write;
 use recording::faults::record::RecordFault;
-use recording::faults::write::WriteFault;
-use recording::faults::write::WriteFaultDebug;
-use recording::faults::write::WriteFaultPartialEq;
-use recording::recording::Recording;
-use recording::recording::said::copy;
 use recording::row::Row;
 use recording::row::RowPartialEq;
-use recording::writer::write;
 use std::test::*;
 
 const GOOD: Row = Row {

@@ -2,7 +2,7 @@
 use mathlib.Core.Bool.{Bool}
 use Prim.Native.Nat.{ℕ}
 use Rattle.std.specs.Of.Vec.{vec-items}
-use Rattle.recording.specs.Recordings.{operationRow}
+use Rattle.recording.specs.Rows.{operationRow}
 use Rattle.recording.specs.declared.marks.Marks.{Marks}
 use Rattle.rules.specs.Acceptance.{Setting, bit}
 use Rattle.rules.specs.Numbers.{stateNumber, classNumber, not-held}

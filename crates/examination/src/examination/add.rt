@@ -5,7 +5,7 @@ ghost use lib.ListN.{length};
 ghost use Rattle.std.specs.Vec.{made};
 ghost use Rattle.std.specs.declared.option.Option.the-variants.{None};
 ghost use Rattle.happens_before.specs.Order.{Before};
-ghost use Rattle.recording.specs.Recordings.{operationRow};
+ghost use Rattle.recording.specs.Rows.{operationRow};
 ghost use Rattle.rules.specs.Acceptance.{refusal};
 ghost use Rattle.rules.specs.Answers.{Count};
 ghost use Rattle.examination.specs.Exact.{Exact, held, settingOf, Same-setting};

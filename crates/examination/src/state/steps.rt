@@ -4,7 +4,7 @@ ghost use mathlib.Core.Bool.{Bool, false};
 ghost use mathlib.Core.List.{List, [], _∷_, _++_};
 ghost use Prim.Native.Nat.{ℕ, _<_, _≤_};
 ghost use lib.ListN.{length};
-ghost use Rattle.recording.specs.Recordings.{operationRow};
+ghost use Rattle.recording.specs.Rows.{operationRow};
 ghost use Rattle.recording.specs.declared.row.Row.{Row};
 ghost use Rattle.rules.specs.Acceptance.{bit};
 ghost use Rattle.rules.specs.Fair.{Fair-tables, refused-by-tables};

@@ -1,8 +1,11 @@
 //! Operations as text.
+ghost use mathlib.Core.Path.{_≡_};
+ghost use Prim.Native.Nat.{_<_};
 ghost use Rattle.std.specs.declared.option.Option.the-variants.{Some};
-ghost use Rattle.recording.specs.Recordings.{operationRow};
-ghost use Rattle.recording.specs.Texts.{marksText, operationText};
-use crate::action::Action;
+ghost use Rattle.recording.specs.Rows.{operationRow};
+ghost use Rattle.recording.specs.Texts.{marksText, operationName, operationText};
+use crate::code::has_item;
+use crate::code::has_target;
 use crate::marks::Marks;
 use crate::operation::Operation;
 use std::fmt;
@@ -20,57 +23,49 @@ pub impl fmt::Display for Marks as MarksDisplay {
     }
 }
 
+/// The names of the operations, by their codes.
+const NAMES: [&str; 15] = [
+    "",
+    "threadinit",
+    "threadexit",
+    "fork",
+    "join",
+    "attachQ",
+    "loopOnQ",
+    "post",
+    "begin",
+    "end",
+    "acquire",
+    "release",
+    "enable",
+    "read",
+    "write",
+];
+
+fn name(code: u8) -> &'static str
+    requires { ⌜ code < 15 ⌝ }
+    ensures { λ r. ⌜ now r ≡ operationName code ⌝ }
+{
+    NAMES[code as usize]
+}
+
 pub impl fmt::Display for Operation as OperationDisplay {
     ghost shown = { λ o. Some (operationText (operationRow o)) };
 
     fn fmt<W: fmt::Write>(&self, f: &mut fmt::Formatter<W>) -> fmt::Result {
-        let thread = self.thread().number();
-        match self.action() {
-            Action::ThreadInit => write!(f, "threadinit({thread})"),
-            Action::ThreadExit => write!(f, "threadexit({thread})"),
-            Action::Fork(target) => {
-                let target = target.number();
-                write!(f, "fork({thread},{target})")
-            }
-            Action::Join(target) => {
-                let target = target.number();
-                write!(f, "join({thread},{target})")
-            }
-            Action::AttachQ => write!(f, "attachQ({thread})"),
-            Action::LoopOnQ => write!(f, "loopOnQ({thread})"),
-            Action::Post(task, target, marks) => {
-                let task = task.number();
-                let target = target.number();
-                write!(f, "post({thread},{task},{target}{marks})")
-            }
-            Action::Begin(task) => {
-                let task = task.number();
-                write!(f, "begin({thread},{task})")
-            }
-            Action::End(task) => {
-                let task = task.number();
-                write!(f, "end({thread},{task})")
-            }
-            Action::Acquire(lock) => {
-                let lock = lock.number();
-                write!(f, "acquire({thread},{lock})")
-            }
-            Action::Release(lock) => {
-                let lock = lock.number();
-                write!(f, "release({thread},{lock})")
-            }
-            Action::Enable(task) => {
-                let task = task.number();
-                write!(f, "enable({thread},{task})")
-            }
-            Action::Read(location) => {
-                let location = location.number();
-                write!(f, "read({thread},{location})")
-            }
-            Action::Write(location) => {
-                let location = location.number();
-                write!(f, "write({thread},{location})")
-            }
+        let row = self.row();
+        let name = name(row.code);
+        let thread = row.thread;
+        write!(f, "{name}({thread}")?;
+        if has_item(row.code) {
+            let item = row.item;
+            write!(f, ",{item}")?;
         }
+        if has_target(row.code) {
+            let target = row.target;
+            write!(f, ",{target}")?;
+        }
+        let marks = Marks::in_row(row);
+        write!(f, "{marks})")
     }
 }

@@ -1,0 +1,7 @@
+mod Parts
+mod LawfulFiles
+mod ReadRows
+mod FileBytes
+mod WrittenRecords
+mod ReadBack
+mod Held
