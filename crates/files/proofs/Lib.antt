@@ -1,5 +1,5 @@
 mod Parts
-mod LawfulFiles
+pub mod LawfulFiles
 mod ReadRows
 mod FileBytes
 mod WrittenRecords

@@ -1,0 +1,3 @@
+//! Feeding the records of a file to an examination.
+pub mod fault;
+pub mod feed;
