@@ -123,13 +123,6 @@ fn write_all(rows: &[Row], columns: &[Column], nearests: &[NearestPosts], races:
     }
 }
 
-/// How many races there are among the first 512 operations.
-pub fn count_races(rows: &[Row], columns: &[Column]) -> usize
-    ensures { λ r. ⌜ ((nearests : List NearestPosts) → Where-right (now (rows .entry)) (now (columns .entry)) nearests (λ D. length (now (rows .entry)) ≤ 512 → (races : List RaceRow) × Race-list D (now (rows .entry)) races × (r ≡ length races))) ⌝ }
-{
-    count(rows, columns)
-}
-
 /// Writes the race list into the first places and answers the number of races;
 /// where the places are too few, writes nothing and answers how many are needed.
 pub fn list_races(
