@@ -1,0 +1,7 @@
+//! Tests of scripts.
+#[cfg(test)]
+mod bad;
+#[cfg(test)]
+mod good;
+#[cfg(test)]
+mod tried;
