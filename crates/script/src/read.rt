@@ -25,7 +25,7 @@ const PLACE: RaceRow = RaceRow {
 
 /// What a line after the opening asks for.
 #[derive(Clone, Copy)]
-pub enum Step {
+pub(crate) enum Step {
     /// The next call of the run.
     Called,
     /// The row is no operation, so that there is nothing to add.
@@ -34,7 +34,7 @@ pub enum Step {
 
 /// The lines after the opening, up to the first bad one.
 #[derive(Drop)]
-pub struct Script {
+pub(crate) struct Script {
     pub steps: Vec<Step>,
     pub calls: Vec<Call>,
     /// How many places the calls are lent in all.
@@ -113,7 +113,7 @@ impl Script {
     }
 
     /// The script whose lines after the opening are those of the text.
-    pub fn read(heap: Global, text: &[u8]) -> Result<Script, AllocError> {
+    pub(crate) fn read(heap: Global, text: &[u8]) -> Result<Script, AllocError> {
         let mut script = Script::new(heap);
         let mut rest = text;
         while !rest.is_empty() {
