@@ -1,5 +1,7 @@
 //! Makes the calls of the script on standard input, and says what each answers.
 //! A line that is none ends it, with status 1.
+#![tactic(auto)]
+
 use anyhow::anyhow;
 use script::tell::tell;
 use std::io;

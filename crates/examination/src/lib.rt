@@ -1,4 +1,6 @@
 //! Examinations: held operations, what is before what, and which accesses race.
+#![tactic(auto)]
+
 mod chain;
 pub mod examination;
 mod state;

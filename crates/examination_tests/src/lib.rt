@@ -1,4 +1,6 @@
 //! Tests of examinations and of feeding them.
+#![tactic(auto)]
+
 #[cfg(test)]
 mod cases;
 #[cfg(test)]

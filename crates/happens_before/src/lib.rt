@@ -1,5 +1,7 @@
 //! What is before what in a trace of operations, and which accesses race: definitions and theorems only.
 //! Each function stands for the theorem that its contract names.
+#![tactic(auto)]
+
 ghost use Rattle.happens_before.specs.Theorems.{LeastOrderingExists, AdditionsChangeNothingEarlier, RenamingChangesNothing, ClassesExclude};
 
 /// A trace in which tasks are posted before they begin has a least closed ordering: 'before' is itself closed.

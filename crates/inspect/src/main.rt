@@ -1,4 +1,6 @@
 //! Lists the recording on standard input, or says its fault and ends with status 1.
+#![tactic(auto)]
+
 use anyhow::anyhow;
 use contents::faults::error::ReadError;
 use listing::fault::fault_line;

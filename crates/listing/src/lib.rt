@@ -1,4 +1,6 @@
 //! What a recording holds, as lines of text.
+#![tactic(auto)]
+
 pub mod fault;
 pub mod inspect;
 mod lines;

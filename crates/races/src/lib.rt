@@ -1,4 +1,6 @@
 //! Which accesses race, of which class, and the race list.
+#![tactic(auto)]
+
 pub mod class;
 pub mod list;
 pub mod nearest;

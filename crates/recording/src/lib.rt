@@ -1,4 +1,6 @@
 //! The operations of a recording, and their records.
+#![tactic(auto)]
+
 pub mod action;
 pub mod code;
 pub mod discipline;

@@ -1,4 +1,6 @@
 //! Tests of reading, listing and writing recordings.
+#![tactic(auto)]
+
 #[cfg(test)]
 mod files;
 #[cfg(test)]

@@ -1,4 +1,6 @@
 //! Examines the recording on standard input and lists its races, or says its fault and ends with status 1.
+#![tactic(auto)]
+
 use anyhow::anyhow;
 use reporting::report::report;
 use std::io;

@@ -1,4 +1,6 @@
 //! Reports each recording that is named on the command line, its name before its lines.
+#![tactic(auto)]
+
 use reporting::report::report;
 use std::fs::File;
 use std::io::Read;

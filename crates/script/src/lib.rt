@@ -1,4 +1,6 @@
 //! Scripts of calls: their lines, the run that they make, and its answers as text.
+#![tactic(auto)]
+
 pub mod answer;
 pub mod fault;
 pub mod line;

@@ -1,4 +1,6 @@
 //! Tests of scripts.
+#![tactic(auto)]
+
 #[cfg(test)]
 mod bad;
 #[cfg(test)]
