@@ -17,12 +17,12 @@ loop-k-preserved c =
     let last = c.in-Some.ensures in (
       omega arith,
       taken_in_part c.args.columns.now (has c.args.own.now) (has c.loop-k.column) c.loop-k.end c.in-Some.k last
-          c.join-except.new.self (sym c.if-contains.ensures) c.join-except.ensures
+          c.join_except.new.self (sym c.if-contains.ensures) c.join_except.ensures
           ∙ c.loop-k.invariant.1,
     )
 
 pub returns : goal.returns
 returns c k =
     ap (λ p. p k)
-    (all_passed c.args.columns.now (has c.args.own.now) (has c.loop-k.column) 0 c.loop-k.end (omega arith) c.in-default.ensures
+    (all_passed c.args.columns.now (has c.args.own.now) (has c.loop-k.column) 0 c.loop-k.end (omega arith) c.in_default.ensures
     ∙ c.loop-k.invariant.1)

@@ -5,5 +5,5 @@ use Rattle.contents.proofs.writer.header_bytes.Goals as goal
 
 pub returns : goal.returns
 returns c =
-    header_spelled c.args.discipline c.args.mask c.args.count _ _ c.to-le-bytes.ensures
-    (c.to-le-bytes-2.ensures ∙ bytes_8 c.args.mask)
+    header_spelled c.args.discipline c.args.mask c.args.count _ _ c.to_le_bytes.ensures
+    (c.to_le_bytes-2.ensures ∙ bytes_8 c.args.mask)

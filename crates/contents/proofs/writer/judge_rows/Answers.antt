@@ -12,4 +12,4 @@ returns-in-Err c =
     }
 
 pub loop-number-preserved : goal.loop-number-preserved
-loop-number-preserved c = below_more _ _ c.loop-number.invariant c.in-default.ensures.0
+loop-number-preserved c = below_more _ _ c.loop-number.invariant c.in_default.ensures.0

@@ -8,6 +8,6 @@ returns c =
     let bytes = c.args.bytes.now in
     let at = c.args.at in
     let k : at + (at + length bytes - at) ≡ at + length bytes = omega arith in
-    ap (λ b. take at buffer ++ (b ++ drop (at + length bytes - at) (drop at buffer))) c.copy-from-slice.ensures.after
+    ap (λ b. take at buffer ++ (b ++ drop (at + length bytes - at) (drop at buffer))) c.copy_from_slice.ensures.after
     ∙ ap (λ rest. take at buffer ++ (bytes ++ rest))
     (drop-drop (at + length bytes - at) at buffer ∙ ap (λ n. drop n buffer) k)

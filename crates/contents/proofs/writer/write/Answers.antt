@@ -19,13 +19,13 @@ pub returns-then-rows-gt512 : goal.returns-then-rows-gt512
 returns-then-rows-gt512 c =
     record { writes = (too_many c.if-discipline-gt2.false c.if-rows-gt512.true, refl); reads-back = tt }
 
-pub returns-in-err-judge-rows : goal.returns-in-err-judge-rows
-returns-in-err-judge-rows c =
-    let p = err_from_is_err_and c.from-residual.result c.from-residual.ensures.1 in
+pub returns-in_err-judge_rows : goal.returns-in_err-judge_rows
+returns-in_err-judge_rows c =
+    let p = err_from_is_err_and c.from_residual.result c.from_residual.ensures.1 in
     rw (p.1, p.2)
     (record {
       writes =
-          (unlawful_row c.if-discipline-gt2.false c.if-rows-gt512.false c.in-err-judge-rows.ensures, refl);
+          (unlawful_row c.if-discipline-gt2.false c.if-rows-gt512.false c.in_err-judge_rows.ensures, refl);
       reads-back = tt;
     })
 
@@ -50,7 +50,7 @@ returns-then-buffer-needed c =
     let d = contents c.args.discipline c.args.mask c.args.rows.now in
     let h =
     judged c.args.discipline c.args.mask c.args.rows.now c.if-discipline-gt2.false c.ranges.mask.fits
-    c.if-rows-gt512.false c.in-ok-judge-rows.ensures
+    c.if-rows-gt512.false c.in_ok-judge_rows.ensures
     in
     record {
       writes = (refused_short d (length c.args.buffer.now) h c.if-buffer-needed.true, refl);
@@ -62,14 +62,14 @@ returns c =
     let d = contents c.args.discipline c.args.mask c.args.rows.now in
     let h =
     judged c.args.discipline c.args.mask c.args.rows.now c.if-discipline-gt2.false c.ranges.mask.fits
-    c.if-rows-gt512.false c.in-ok-judge-rows.ensures
+    c.if-rows-gt512.false c.in_ok-judge_rows.ensures
     in
     record {
       writes = (
         h,
         sym (file_long d h),
         c.if-buffer-needed.false,
-        whole_file d c.args.buffer.now _ _ _ c.header-bytes.ensures c.put.ensures c.write-records.ensures,
+        whole_file d c.args.buffer.now _ _ _ c.header_bytes.ensures c.put.ensures c.write_records.ensures,
       );
       reads-back = read_back d h;
     }

@@ -6,7 +6,7 @@ pub loop-number-preserved : goal.loop-number-preserved
 loop-number-preserved c =
     let l = c.loop-number in
     one_more c.args.rows.now c.args.buffer.now c.requires l.number _ l.buffer _ _ c.loop-number-test.true refl
-    l.invariant c.to-bytes.ensures c.put.ensures
+    l.invariant c.to_bytes.ensures c.put.ensures
 
 pub returns : goal.returns
 returns c =

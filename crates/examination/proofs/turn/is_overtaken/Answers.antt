@@ -8,15 +8,15 @@ use Rattle.ordering.proofs.Postings.{posted_at_lem, posted_there, posted_never}
 use Rattle.examination.proofs.Turns.{none_ahead, one_ahead}
 use Rattle.examination.proofs.turn.is_overtaken.Goals as goal
 
-pub returns-in-default : goal.returns-in-default
-returns-in-default g c initial matches ranged =
+pub returns-in_default : goal.returns-in_default
+returns-in_default g c initial matches ranged =
     let rows = c.args.rows.now in
     let n = c.number.result in
     let same : n ≡ c.args.task.number = c.number.ensures.0 in
     let is = (matches.tasks_match n c.number.ensures.1).position_is in
     let record_is = cond-true (ltb n 512) (task_at c.args.tables.now.tasks n).posting None (lt-ltb n 512 c.number.ensures.1) in
     none_ahead rows c.args.task.number _
-    (λ b p. absurd (posted_never rows n _ is (sym (c.in-default.ensures ∙ record_is)) b (subst (Posts rows b) (sym same) p)))
+    (λ b p. absurd (posted_never rows n _ is (sym (c.in_default.ensures ∙ record_is)) b (subst (Posts rows b) (sym same) p)))
 
 pub returns-then-later-rows : goal.returns-then-later-rows
 returns-then-later-rows g c initial matches ranged =
@@ -28,8 +28,8 @@ returns-then-later-rows g c initial matches ranged =
     let never : ⊥ = omega (arith, at, c.if-later-rows.true) in
     absurd never
 
-pub returns-then-is-ahead : goal.returns-then-is-ahead
-returns-then-is-ahead g c initial matches ranged =
+pub returns-then-is_ahead : goal.returns-then-is_ahead
+returns-then-is_ahead g c initial matches ranged =
     let rows = c.args.rows.now in
     let n = c.number.result in
     let same : n ≡ c.args.task.number = c.number.ensures.0 in
@@ -43,12 +43,12 @@ returns-then-is-ahead g c initial matches ranged =
     && (waits rows c.args.thread.number (item rows a)
     && g.D.Discipline.precedence c.args.discipline.now (marks rows a) (marks rows b)))
     x.position c.loop-earlier.earlier at.0 (subst (Posts rows x.position) same at.1) c.loop-earlier-test.true
-    (sym (c.is-ahead.ensures initial matches ranged) ∙ c.if-is-ahead.true)
+    (sym (c.is_ahead.ensures initial matches ranged) ∙ c.if-is_ahead.true)
 
 pub loop-earlier-preserved : goal.loop-earlier-preserved
 loop-earlier-preserved g c initial matches ranged =
     below_more _ _ (c.loop-earlier.invariant initial matches ranged)
-    (sym (c.is-ahead.ensures initial matches ranged) ∙ c.if-is-ahead.false)
+    (sym (c.is_ahead.ensures initial matches ranged) ∙ c.if-is_ahead.false)
 
 pub returns : goal.returns
 returns g c initial matches ranged =

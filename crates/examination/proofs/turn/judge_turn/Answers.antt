@@ -24,25 +24,25 @@ marks_again m = go m.environment m.delay
     go false None = refl
     go false (Some d) = refl
 
-pub returns-then-is-overtaken : goal.returns-then-is-overtaken
-returns-then-is-overtaken g c s matches ranged admits precedes =
+pub returns-then-is_overtaken : goal.returns-then-is_overtaken
+returns-then-is_overtaken g c s matches ranged admits precedes =
     let o = c.args.operation.row in
     let held = c.args.rows.now in
     let p = c.in-Begin.task.number in
     let begins = sym c.action.ensures ∙ ap (row_of o.thread) c.in-Begin.is in
-    let answer = sym (c.is-overtaken.ensures s.initial matches ranged) ∙ c.if-is-overtaken.true in
+    let answer = sym (c.is_overtaken.ensures s.initial matches ranged) ∙ c.if-is_overtaken.true in
     let so : overtakes s.precedence held o.thread p ≡ true =
     (λ x. overtakes (precedes x) held (sym c.thread.ensures x) p) ∙ answer
     in
     sym (ap (discipline_refusal s held) begins ∙ ap (λ b. cond b (Some OutOfTurn) None) so)
 
-pub returns-else-is-overtaken : goal.returns-else-is-overtaken
-returns-else-is-overtaken g c s matches ranged admits precedes =
+pub returns-else-is_overtaken : goal.returns-else-is_overtaken
+returns-else-is_overtaken g c s matches ranged admits precedes =
     let o = c.args.operation.row in
     let held = c.args.rows.now in
     let p = c.in-Begin.task.number in
     let begins = sym c.action.ensures ∙ ap (row_of o.thread) c.in-Begin.is in
-    let answer = sym (c.is-overtaken.ensures s.initial matches ranged) ∙ c.if-is-overtaken.false in
+    let answer = sym (c.is_overtaken.ensures s.initial matches ranged) ∙ c.if-is_overtaken.false in
     let so : overtakes s.precedence held o.thread p ≡ false =
     (λ x. overtakes (precedes x) held (sym c.thread.ensures x) p) ∙ answer
     in

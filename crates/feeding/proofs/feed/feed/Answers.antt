@@ -25,7 +25,7 @@ loop-part-preserved g c =
     let l = c.loop-part in
     let i = l.invariant in
     let x = c.in-Some.ensures in
-    let w = c.in-ok-take.ensures in
+    let w = c.in_ok-take.ensures in
     let s = setting_of g.D.Discipline.admission g.D.Discipline.precedence e in
     let s' = setting_of g.D.Discipline.admission g.D.Discipline.precedence l.examination in
     let same : s' ≡ s = same_setting g.D.Discipline.admission g.D.Discipline.precedence e l.examination i.3 in
@@ -39,23 +39,23 @@ loop-part-preserved g c =
       (λ y. w.exact (i.4 y)),
     )
 
-pub returns-in-err-take : goal.returns-in-err-take
-returns-in-err-take g c =
-    let p = err_from_is_err_and c.from-residual-in-err-take.result c.from-residual-in-err-take.ensures.1 in
+pub returns-in_err-take : goal.returns-in_err-take
+returns-in_err-take g c =
+    let p = err_from_is_err_and c.from_residual-in_err-take.result c.from_residual-in_err-take.ensures.1 in
     let file = c.args.file.now in
     let e = c.args.examination.now in
     let l = c.loop-part in
     let i = l.invariant in
     let x = c.in-Some.ensures in
-    let w = c.in-err-take.ensures in
+    let w = c.in_err-take.ensures in
     let s = setting_of g.D.Discipline.admission g.D.Discipline.precedence e in
     let s' = setting_of g.D.Discipline.admission g.D.Discipline.precedence l.examination in
     let same : s' ≡ s = same_setting g.D.Discipline.admission g.D.Discipline.precedence e l.examination i.3 in
     let here = row_is file l.reader.records.now c.in-Some.part.bytes.now l.reader.number i.0 x.part.1 in
     let after = held c.take.new.examination in
-    let fine = c.in-ok-header.ensures.0 in
-    let room = inside file c.next-record.new.self.records.now l.reader.number fine (x.same ∙ i.0)
-    (omega (arith, x.moves, c.next-record.new.self.within)) in
+    let fine = c.in_ok-header.ensures.0 in
+    let room = inside file c.next_record.new.self.records.now l.reader.number fine (x.same ∙ i.0)
+    (omega (arith, x.moves, c.next_record.new.self.within)) in
     record {
       feeds =
           rw (p.1, p.2)
@@ -71,10 +71,10 @@ returns g c =
     let e = c.args.examination.now in
     let l = c.loop-part in
     let i = l.invariant in
-    let x = c.in-default.ensures in
-    let h = c.in-ok-header.ensures in
+    let x = c.in_default.ensures in
+    let h = c.in_ok-header.ensures in
     let s = setting_of g.D.Discipline.admission g.D.Discipline.precedence e in
-    let all : l.reader.number ≡ c.in-ok-header.header.count =
+    let all : l.reader.number ≡ c.in_ok-header.header.count =
     at_end file l.reader.records.now l.reader.number h.0 i.0 x.part l.reader.within ∙ sym h.1.count
     in
     record {

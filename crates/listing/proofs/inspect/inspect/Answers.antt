@@ -7,9 +7,9 @@ use Rattle.std.proofs.lemmas.Bool.Decides.{Decides-eqb}
 
 pub returns-in-Ok : goal.returns-in-Ok
 returns-in-Ok c =
-    let contents = contents_of c.in-ok-recording.recording in
-    let reads = c.in-ok-recording.ensures in
-    let again = c.as-slice.ensures.value ∙ c.in-ok-again.ensures ∙ sym reads.1 in
+    let contents = contents_of c.in_ok-recording.recording in
+    let reads = c.in_ok-recording.ensures in
+    let again = c.as_slice.ensures.value ∙ c.in_ok-again.ensures ∙ sym reads.1 in
     let same : c.eq.result ≡ true = (slice_eq-Decides Decides-eqb _ _ _ c.eq.ensures).1 again in (
       contents,
       reads,

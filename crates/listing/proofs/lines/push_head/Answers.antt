@@ -11,9 +11,9 @@ returns c =
     let number = c.number-number.ensures.0 ∙ kind in
     let text₀ = string_bytes c.args.text.now in
     let text₁ = string_bytes c.write.new.self in
-    let text₂ = string_bytes c.push-initial.new.text in
+    let text₂ = string_bytes c.push_initial.new.text in
     also text₀ _ _
-    (same_text text₀ c.in-ok-write.ensures.bytes
+    (same_text text₀ c.in_ok-write.ensures.bytes
     (λ k. codes "discipline " ++ (decimal (number k) ++ (codes " " ++ (discipline_name (kind k) ++ codes "\n")))))
-    (also text₁ _ _ (same_text text₁ c.in-ok-push-initial.ensures (ap threads_line c.mask.ensures))
-    (same_text text₂ c.in-ok-write-2.ensures.bytes (ap (λ rows. count_line (length rows)) c.rows.ensures)))
+    (also text₁ _ _ (same_text text₁ c.in_ok-push_initial.ensures (ap threads_line c.mask.ensures))
+    (same_text text₂ c.in_ok-write-2.ensures.bytes (ap (λ rows. count_line (length rows)) c.rows.ensures)))

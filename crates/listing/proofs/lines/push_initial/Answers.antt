@@ -3,7 +3,7 @@ use Rattle.listing.specs.Listings.{threads_text}
 use Rattle.recording.proofs.Added.{also, same_text}
 use Rattle.listing.proofs.MoreLines.{text_none, text_some}
 use Rattle.listing.proofs.lines.push_initial.Goals as goal
-use Rattle.listing.proofs.lines.push_initial.Goals.{then-mask-eq0+in-ok-write-2, else-mask-eq0+in-ok-push-threads}
+use Rattle.listing.proofs.lines.push_initial.Goals.{then-mask-eq0+in_ok-write-2, else-mask-eq0+in_ok-push_threads}
 
 pub returns : goal.returns
 returns c =
@@ -12,12 +12,12 @@ returns c =
     let text₂ = string_bytes c.if-mask-eq0.text in
     let named : text₂ ≡ text₁ ++ threads_text c.args.mask =
     elim c.if-mask-eq0.branch [
-      | then-mask-eq0+in-ok-write-2 w
+      | then-mask-eq0+in_ok-write-2 w
           ↦ ap (λ t. string_bytes t) w.text-is
-          ∙ same_text text₁ w.in-Continue-write-2.ensures.bytes (sym (text_none c.args.mask w.if-mask-eq0.taken))
-      | else-mask-eq0+in-ok-push-threads w
+          ∙ same_text text₁ w.in_ok-write-2.ensures.bytes (sym (text_none c.args.mask w.if-mask-eq0.true))
+      | else-mask-eq0+in_ok-push_threads w
           ↦ ap (λ t. string_bytes t) w.text-is
-          ∙ same_text text₁ w.in-Continue-push-threads.ensures (sym (text_some c.args.mask w.if-mask-eq0.left))
+          ∙ same_text text₁ w.in_ok-push_threads.ensures (sym (text_some c.args.mask w.if-mask-eq0.false))
     ]
     in
-    also text₀ _ _ c.in-ok-write.ensures.bytes (also text₁ _ _ named c.in-ok-write-3.ensures.bytes)
+    also text₀ _ _ c.in_ok-write.ensures.bytes (also text₁ _ _ named c.in_ok-write-3.ensures.bytes)

@@ -9,15 +9,15 @@ named same = cond same (codes "same") (codes "other")
 pub returns : goal.returns
 returns c =
     let text₀ = string_bytes c.args.text.now in
-    let text₁ = string_bytes c.push-head.new.text in
-    let text₂ = string_bytes c.push-operations.new.text in
+    let text₁ = string_bytes c.push_head.new.text in
+    let text₂ = string_bytes c.push_operations.new.text in
     let bytes : c.if-same.bytes.now ≡ named c.args.same =
     elim c.if-same.branch [
       | then_same w ↦ ap (λ r. r.now) w.bytes-is ∙ ap named (sym w.if-same.true)
       | else_same w ↦ ap (λ r. r.now) w.bytes-is ∙ ap named (sym w.if-same.false)
     ]
     in
-    also text₀ _ _ c.in-ok-push-head.ensures
-    (also text₁ _ _ c.in-ok-push-operations.ensures
-    (same_text text₂ c.in-ok-write.ensures.bytes
+    also text₀ _ _ c.in_ok-push_head.ensures
+    (also text₁ _ _ c.in_ok-push_operations.ensures
+    (same_text text₂ c.in_ok-write.ensures.bytes
     (λ k. decimal (length (c.rows.ensures k)) ++ (codes " operations read, written again: " ++ (bytes k ++ codes " bytes\n")))))

@@ -2,7 +2,7 @@ use Rattle.std.proofs.Common.{◌++◌, string_bytes, sym, ap, ◌∙◌, append
 use Rattle.recording.proofs.Added.{also, same_text}
 use Rattle.listing.proofs.MoreLines.{threads_none, threads_more, threads_same}
 use Rattle.listing.proofs.lines.push_threads.Goals as goal
-use Rattle.listing.proofs.lines.push_threads.Goals.{then-mask-thread-eq1+in-ok-write, else-mask-thread-eq1}
+use Rattle.listing.proofs.lines.push_threads.Goals.{then-mask-thread-eq1+in_ok-write, else-mask-thread-eq1}
 
 pub loop-thread-init : goal.loop-thread-init
 loop-thread-init c =
@@ -16,10 +16,10 @@ loop-thread-preserved c =
     let text = string_bytes c.args.text.now in
     let so_far = c.loop-thread.invariant in
     elim c.if-mask-thread-eq1.branch [
-      | then-mask-thread-eq1+in-ok-write w
+      | then-mask-thread-eq1+in_ok-write w
           ↦ ap (λ t. string_bytes t) w.text-is
-          ∙ same_text text (also text _ _ so_far w.in-Continue-write.ensures.bytes)
-          (sym (threads_more mask n w.if-mask-thread-eq1.taken))
+          ∙ same_text text (also text _ _ so_far w.in_ok-write.ensures.bytes)
+          (sym (threads_more mask n w.if-mask-thread-eq1.true))
       | else-mask-thread-eq1 w
-          ↦ ap (λ t. string_bytes t) w.text-is ∙ same_text text so_far (sym (threads_same mask n w.if-mask-thread-eq1.left))
+          ↦ ap (λ t. string_bytes t) w.text-is ∙ same_text text so_far (sym (threads_same mask n w.if-mask-thread-eq1.false))
     ]

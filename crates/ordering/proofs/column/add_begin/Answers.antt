@@ -17,7 +17,7 @@ returns-then-later-rows g c =
     let is = (matches.tasks_match n c.number.ensures.1).position_is in
     let record_is = cond-true (ltb n 512) (task_at c.args.tables.now.tasks n).posting None (lt-ltb n 512 c.number.ensures.1) in
     let found = sym (c.in-Some.ensures ∙ record_is) in
-    let adds = c.add-handovers.ensures initial matches indexed ranged few i in
+    let adds = c.add_handovers.ensures initial matches indexed ranged few i in
     let handed : ℕ → Type 0 =
     λ b.
     Handed (g.D.Discipline.precedence c.args.discipline.now) (pairs_in c.args.columns.now) rows
@@ -45,8 +45,8 @@ returns-else-later-rows g c =
     let never : ⊥ = omega (arith, at, c.if-later-rows.false) in
     absurd never
 
-pub returns-in-default : goal.returns-in-default
-returns-in-default g c =
+pub returns-in_default : goal.returns-in_default
+returns-in_default g c =
     λ initial matches indexed ranged few i.
     let rows = c.args.rows.now in
     let n = c.number.result in
@@ -57,5 +57,5 @@ returns-in-default g c =
       ⊎_elim (λ e. e)
           (λ r.
           absurd
-          (posted_never rows n _ is (sym (c.in-default.ensures ∙ record_is)) r.0 (subst (Posts rows r.0) (sym same) r.1))),
+          (posted_never rows n _ is (sym (c.in_default.ensures ∙ record_is)) r.0 (subst (Posts rows r.0) (sym same) r.1))),
     )

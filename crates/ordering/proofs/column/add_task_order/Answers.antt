@@ -12,7 +12,7 @@ returns-in-Some c =
     let p = c.in-Some.task in
     let is : is_of c.args.task p ≡ true = ap (λ q. is_of q p) c.in-Some.is ∙ eq-eqb p p refl in
     let old = has c.args.column.now i in
-    let adds = c.add-members.ensures.added held indexed (small p is) i in (
+    let adds = c.add_members.ensures.added held indexed (small p is) i in (
       λ e.
           ⊎_elim inl
           (λ h. let (l, m) = and_parts (ltb i (length held)) _ h in inr (ltb-true _ _ l, (p, is, m)))

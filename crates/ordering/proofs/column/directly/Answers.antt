@@ -25,20 +25,20 @@ returns-in-Begin g c =
     let begins : o ≡ row_of o.thread (Begin c.in-Begin.task) =
     sym c.action-action.ensures ∙ ap (row_of o.thread) c.in-Begin.is
     in
-    let second = has c.add-task-order.new.column i in
-    with_begin D R held o i (is_of c.args.task) (has c.program-order-column.result i) second (has c.add-kinds.new.column i)
-    (c.program-order-column.ensures held indexed i ∙ ap (λ v. ltb i (length held) && unlooped_at (take i held) v (row held i)) t)
-    (c.add-task-order.ensures held indexed small i) tasks
-    (c.add-kinds.ensures held indexed i ∙ ap (λ r. second || (ltb i (length held) && kindly (row held i) r)) is)
-    (has c.add-begin.new.column i) (ap (λ r. r.code) begins)
+    let second = has c.add_task_order.new.column i in
+    with_begin D R held o i (is_of c.args.task) (has c.program_order-column.result i) second (has c.add_kinds.new.column i)
+    (c.program_order-column.ensures held indexed i ∙ ap (λ v. ltb i (length held) && unlooped_at (take i held) v (row held i)) t)
+    (c.add_task_order.ensures held indexed small i) tasks
+    (c.add_kinds.ensures held indexed i ∙ ap (λ r. second || (ltb i (length held) && kindly (row held i) r)) is)
+    (has c.add_begin.new.column i) (ap (λ r. r.code) begins)
     (subst₂
     (λ v p.
-    (has c.add-begin.new.column i ≡ true)
-    ↔ ((has c.add-kinds.new.column i ≡ true) ⊎ BegunAfter D R held v p i))
-    t (sym (ap (λ r. r.item) begins)) (c.add-begin.ensures initial matches indexed ranged few i))
+    (has c.add_begin.new.column i ≡ true)
+    ↔ ((has c.add_kinds.new.column i ≡ true) ⊎ BegunAfter D R held v p i))
+    t (sym (ap (λ r. r.item) begins)) (c.add_begin.ensures initial matches indexed ranged few i))
 
-pub returns-in-default : goal.returns-in-default
-returns-in-default g c =
+pub returns-in_default : goal.returns-in_default
+returns-in_default g c =
     λ initial matches indexed ranged few tasks small i.
     let held = c.args.rows.now in
     let o = c.args.operation.row in
@@ -48,9 +48,9 @@ returns-in-default g c =
     let u = c.thread-thread.result.number in
     let t : u ≡ o.thread = c.thread-thread.ensures in
     let is : row_of u a ≡ o = ap (λ v. row_of v a) t ∙ c.action-action.ensures in
-    let second = has c.add-task-order.new.column i in
-    no_begin D R held o i (is_of c.args.task) (has c.program-order-column.result i) second (has c.add-kinds.new.column i)
-    (c.program-order-column.ensures held indexed i ∙ ap (λ v. ltb i (length held) && unlooped_at (take i held) v (row held i)) t)
-    (c.add-task-order.ensures held indexed small i) tasks
-    (c.add-kinds.ensures held indexed i ∙ ap (λ r. second || (ltb i (length held) && kindly (row held i) r)) is)
-    (λ e. only_begin u a (ap (λ r. r.code) is ∙ e) c.in-default.not-Begin)
+    let second = has c.add_task_order.new.column i in
+    no_begin D R held o i (is_of c.args.task) (has c.program_order-column.result i) second (has c.add_kinds.new.column i)
+    (c.program_order-column.ensures held indexed i ∙ ap (λ v. ltb i (length held) && unlooped_at (take i held) v (row held i)) t)
+    (c.add_task_order.ensures held indexed small i) tasks
+    (c.add_kinds.ensures held indexed i ∙ ap (λ r. second || (ltb i (length held) && kindly (row held i) r)) is)
+    (λ e. only_begin u a (ap (λ r. r.code) is ∙ e) c.in_default.not-Begin)

@@ -7,7 +7,7 @@ use Rattle.rules.specs.Columns.{pairs_in}
 use Rattle.ordering.specs.Directly.{Ended}
 use Rattle.ordering.proofs.Gathered.{SoFar, gather_yes, gather_no}
 use Rattle.ordering.proofs.handover.add_handovers.Goals as goal
-use Rattle.ordering.proofs.handover.add_handovers.Goals.{then-is-handed, else-is-handed}
+use Rattle.ordering.proofs.handover.add_handovers.Goals.{then-is_handed, else-is_handed}
 
 pub loop-i-preserved : goal.loop-i-preserved
 loop-i-preserved g c =
@@ -19,15 +19,15 @@ loop-i-preserved g c =
     in
     let i = c.loop-i.i in
     let so_far = c.loop-i.invariant initial matches indexed ranged few in
-    let is = c.is-handed.ensures initial matches indexed ranged in
-    elim c.if-is-handed.branch [
-      | then-is-handed w ↦
+    let is = c.is_handed.ensures initial matches indexed ranged in
+    elim c.if-is_handed.branch [
+      | then-is_handed w ↦
           let l : i < 512 = omega (arith, c.loop-i-test.true) in
           subst (λ (x : Column). SoFar first each (has x) (i + 1)) (sym w.column_is)
-          (gather_yes first each (has c.loop-i.column) i _ so_far w.insert-then-is-handed.ensures l (is.0 w.if-is-handed.true))
-      | else-is-handed w ↦
+          (gather_yes first each (has c.loop-i.column) i _ so_far w.insert-then-is_handed.ensures l (is.0 w.if-is_handed.true))
+      | else-is_handed w ↦
           subst (λ (x : Column). SoFar first each (has x) (i + 1)) (sym w.column_is)
-          (gather_no first each (has c.loop-i.column) i so_far (λ h. both_ways _ w.if-is-handed.false (is.1 h)))
+          (gather_no first each (has c.loop-i.column) i so_far (λ h. both_ways _ w.if-is_handed.false (is.1 h)))
     ]
 
 pub returns : goal.returns

@@ -10,7 +10,7 @@ returns-then-reaches g c =
 pub returns-else-reaches : goal.returns-else-reaches
 returns-else-reaches g c =
     λ initial matches indexed small.
-    let queued = c.is-queued.ensures initial matches small in
+    let queued = c.is_queued.ensures initial matches small in
     let ran = c.reaches.ensures.met c.args.rows.now indexed small in (
       λ e. inl (queued.0 e),
       λ h. ⊎_elim (λ q. queued.1 q) (λ r. absurd (both_ways _ c.if-reaches.false (ran.1 r))) h,

@@ -13,5 +13,5 @@ returns-then-contains g c =
     let (_, done) = and_parts (ltb i _) _ is in
     let (e, t) = and_parts (eqb (code rows i) end) _ done in
     let small : item rows i < 512 = (ranged i c.requires.held).2 (ap has_task (eqb-true _ _ e)) in
-    let hands = c.hands-over.ensures initial matches indexed small in
+    let hands = c.hands_over.ensures initial matches indexed small in
     (λ h. (eqb-true _ _ e, eqb-true _ _ t, hands.0 h), λ h. hands.1 h.2)

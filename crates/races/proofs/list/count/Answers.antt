@@ -12,8 +12,8 @@ pub loop-position-preserved : goal.loop-position-preserved
 loop-position-preserved c = (
   λ nearests.
       let e = count_more c.args.rows.now c.args.columns.now nearests c.loop-position.position in
-      omega (arith, e, c.loop-position.invariant.0 nearests, c.count-of-n.ensures.counted nearests),
-  omega (arith, c.loop-position.invariant.1, c.count-of-n.ensures.few),
+      omega (arith, e, c.loop-position.invariant.0 nearests, c.count_of-n.ensures.counted nearests),
+  omega (arith, c.loop-position.invariant.1, c.count_of-n.ensures.few),
 )
 
 pub returns : goal.returns

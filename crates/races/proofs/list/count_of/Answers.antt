@@ -3,16 +3,16 @@ use Rattle.races.specs.Listing.{gathered, race_of}
 use Rattle.races.proofs.Gathered.{gathered_none}
 use Rattle.races.proofs.Listing.{races_none, tested, count_here, more_none}
 use Rattle.races.proofs.list.count_of.Goals as goal
-use Rattle.races.proofs.list.count_of.Goals.{then-races-with, else-races-with}
+use Rattle.races.proofs.list.count_of.Goals.{then-races_with, else-races_with}
 
-pub returns-then-not-is-access : goal.returns-then-not-is-access
-returns-then-not-is-access c =
+pub returns-then-not-is_access : goal.returns-then-not-is_access
+returns-then-not-is_access c =
     record {
       counted =
           λ nearests.
           sym
           (ap length
-          (races_none c.args.rows.now c.args.columns.now nearests c.args.position (sym c.if-not-is-access.ensures)));
+          (races_none c.args.rows.now c.args.columns.now nearests c.args.position (sym c.if-not-is_access.ensures)));
       few = omega arith;
     }
 
@@ -27,23 +27,23 @@ loop-earlier-preserved c =
     let i = c.loop-earlier.earlier in
     let j = c.args.position in
     let inv = c.loop-earlier.invariant in
-    elim c.if-races-with.branch [
-      | then-races-with w ↦ (
+    elim c.if-races_with.branch [
+      | then-races_with w ↦ (
         λ nearests.
             let is =
-            tested rows columns nearests c.column-at-column.result i j c.races-with.result c.column-at-column.ensures
-            c.races-with.ensures in
+            tested rows columns nearests c.column_at-column.result i j c.races_with.result c.column_at-column.ensures
+            c.races_with.ensures in
             w.n-is
             ∙ (ap (λ k. k + 1) (inv.0 nearests)
-            ∙ sym (count_here rows columns nearests i j (sym is ∙ w.if-races-with.true))),
+            ∙ sym (count_here rows columns nearests i j (sym is ∙ w.if-races_with.true))),
         omega (arith, w.n-is, inv.1),
       )
-      | else-races-with w ↦ (
+      | else-races_with w ↦ (
         λ nearests.
             let is =
-            tested rows columns nearests c.column-at-column.result i j c.races-with.result c.column-at-column.ensures
-            c.races-with.ensures in
-            w.n-is ∙ (inv.0 nearests ∙ sym (ap length (more_none rows columns nearests i j (sym is ∙ w.if-races-with.false)))),
+            tested rows columns nearests c.column_at-column.result i j c.races_with.result c.column_at-column.ensures
+            c.races_with.ensures in
+            w.n-is ∙ (inv.0 nearests ∙ sym (ap length (more_none rows columns nearests i j (sym is ∙ w.if-races_with.false)))),
         omega (arith, w.n-is, inv.1),
       )
     ]

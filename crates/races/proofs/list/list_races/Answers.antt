@@ -48,16 +48,16 @@ returns c =
     let n = c.count-needed.ensures nearests in
     record {
       kept =
-          kept rows columns nearests c.args.races.now c.write-all.new.races c.count-needed.result n
-          c.if-races-needed.false c.write-all.ensures;
+          kept rows columns nearests c.args.races.now c.write_all.new.races c.count-needed.result n
+          c.if-races-needed.false c.write_all.ensures;
       found =
-          listed rows columns nearests c.args.races.now c.write-all.new.races c.count-needed.result n
-          c.write-all.ensures;
+          listed rows columns nearests c.args.races.now c.write_all.new.races c.count-needed.result n
+          c.write_all.ensures;
       listed =
           λ D posted right near small. (
             all_races rows columns nearests,
             race_list rows columns nearests D posted right near small,
-            listed rows columns nearests c.args.races.now c.write-all.new.races c.count-needed.result n
-                c.write-all.ensures,
+            listed rows columns nearests c.args.races.now c.write_all.new.races c.count-needed.result n
+                c.write_all.ensures,
           );
     }

@@ -9,17 +9,17 @@ loop-later-init c =
     let none = gathered_none (races_of c.args.rows.now c.args.columns.now c.args.nearests.now) in
     (sym (ap length none), sym (ap (λ xs. xs ++ c.args.races.now) none))
 
-pub write-of-n-requires : goal.write-of-n-requires
-write-of-n-requires c =
+pub write_of-n-requires : goal.write_of-n-requires
+write_of-n-requires c =
     let room = room_below c.args.rows.now c.args.columns.now c.args.nearests.now c.loop-later.later (omega arith) in
     (omega arith, (omega arith, omega (arith, room, c.loop-later.invariant.0, c.loop-later.auto.races, c.requires)))
 
 pub loop-later-preserved : goal.loop-later-preserved
 loop-later-preserved c =
     written_more c.args.rows.now c.args.columns.now c.args.nearests.now
-    c.args.races.now c.loop-later.races c.write-of-n.new.races
-    c.loop-later.n c.write-of-n.result c.loop-later.later
-    c.loop-later.invariant.0 c.loop-later.invariant.1 c.write-of-n.ensures.place c.write-of-n.ensures.written
+    c.args.races.now c.loop-later.races c.write_of-n.new.races
+    c.loop-later.n c.write_of-n.result c.loop-later.later
+    c.loop-later.invariant.0 c.loop-later.invariant.1 c.write_of-n.ensures.place c.write_of-n.ensures.written
 
 pub returns : goal.returns
 returns c =

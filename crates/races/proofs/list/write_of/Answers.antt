@@ -7,7 +7,7 @@ use Rattle.races.specs.Listing.{gathered, race_of}
 use Rattle.races.proofs.Gathered.{gathered_none}
 use Rattle.races.proofs.Listing.{races_none, tested, count_here, room_here, written_here, more_none}
 use Rattle.races.proofs.list.write_of.Goals as goal
-use Rattle.races.proofs.list.write_of.Goals.{then-races-with, else-races-with}
+use Rattle.races.proofs.list.write_of.Goals.{then-races_with, else-races_with}
 
 -- nothing is written yet
 untouched : (old xs : List RaceRow) (from : _) → xs ≡ [] → old ≡ (take from old ++ xs) ++ drop from old
@@ -15,11 +15,11 @@ untouched old xs from e =
     sym (ap (λ ys. (take from old ++ ys) ++ drop from old) e
     ∙ (ap (λ ys. ys ++ drop from old) (append-nil (take from old)) ∙ take-append-drop from old))
 
-pub returns-then-not-is-access : goal.returns-then-not-is-access
-returns-then-not-is-access c =
+pub returns-then-not-is_access : goal.returns-then-not-is_access
+returns-then-not-is_access c =
     let none =
     races_none c.args.rows.now c.args.columns.now c.args.nearests.now c.args.later
-    (sym c.if-not-is-access.ensures) in
+    (sym c.if-not-is_access.ensures) in
     let e = ap length none in
     record { place = omega (arith, e); written = untouched c.args.races.now _ c.args.from none }
 
@@ -33,9 +33,9 @@ loop-earlier-init c =
 races : (c : goal.After-number-class) → racing c.args.rows.now c.args.columns.now c.loop-earlier.earlier c.args.later ≡ true
 races c =
     sym
-    (tested c.args.rows.now c.args.columns.now c.args.nearests.now c.column-at-column.result
-    c.loop-earlier.earlier c.args.later c.races-with.result c.column-at-column.ensures c.races-with.ensures)
-    ∙ c.if-races-with.true
+    (tested c.args.rows.now c.args.columns.now c.args.nearests.now c.column_at-column.result
+    c.loop-earlier.earlier c.args.later c.races_with.result c.column_at-column.ensures c.races_with.ensures)
+    ∙ c.if-races_with.true
 
 room : (c : goal.After-number-class) → c.loop-earlier.n < length c.loop-earlier.races
 room c =
@@ -44,14 +44,14 @@ room c =
     (races c) c.loop-earlier-test.true in
     omega (arith, h, c.loop-earlier.invariant.0, c.loop-earlier.auto.races, c.requires)
 
-pub offset-bounds-races-n : goal.offset-bounds-races-n
-offset-bounds-races-n c = let h = room c in search rules
+pub offset_bounds-races-n : goal.offset_bounds-races-n
+offset_bounds-races-n c = let h = room c in search rules
 
 pub bounds-races-n : goal.bounds-races-n
 bounds-races-n c = room c
 
-pub overflow-add-n : goal.overflow-add-n
-overflow-add-n c = let h = room c in search rules
+pub overflow_add-n : goal.overflow_add-n
+overflow_add-n c = let h = room c in search rules
 
 pub loop-earlier-preserved : goal.loop-earlier-preserved
 loop-earlier-preserved c =
@@ -65,11 +65,11 @@ loop-earlier-preserved c =
     let n = c.loop-earlier.n in
     let inv = c.loop-earlier.invariant in
     let is =
-    tested rows columns nearests c.column-at-column.result i j c.races-with.result c.column-at-column.ensures
-    c.races-with.ensures in
-    elim c.if-races-with.branch [
-      | then-races-with w ↦
-          let e = sym is ∙ w.if-races-with.true in
+    tested rows columns nearests c.column_at-column.result i j c.races_with.result c.column_at-column.ensures
+    c.races_with.ensures in
+    elim c.if-races_with.branch [
+      | then-races_with w ↦
+          let e = sym is ∙ w.if-races_with.true in
           let h = room_here rows columns nearests i j e c.loop-earlier-test.true in
           let l : n < length old = omega (arith, h, inv.0, c.requires) in
           let m = count_here rows columns nearests i j e in
@@ -80,8 +80,8 @@ loop-earlier-preserved c =
                 ∙ (written_here rows columns nearests i j e old from n inv.0 l
                 ∙ ap (λ k. (take from old ++ gathered (race_of rows columns nearests j) (i + 1)) ++ drop k old) (sym w.n-is))),
           )
-      | else-races-with w ↦
-          let none = more_none rows columns nearests i j (sym is ∙ w.if-races-with.false) in
+      | else-races_with w ↦
+          let none = more_none rows columns nearests i j (sym is ∙ w.if-races_with.false) in
           let m = ap length none in (
             omega (arith, w.n-is, m, inv.0),
             w.races-is

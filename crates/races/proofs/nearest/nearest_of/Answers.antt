@@ -20,12 +20,12 @@ returns-then-at-rows c =
           subst (λ p. Finds p (TaskPost (rows ++ o ∷ []) (length rows))) c.in-Some.is post in
           let is : c.nearest_past.result ≡ nearest_past o.thread b (row rows b) (nearest_at nearests b) =
           c.nearest_past.ensures
-          ∙ ap₂ (λ t (p : NearestPosts). nearest_past t b (row rows b) p) (sym thread) c.nearest-at.ensures in
+          ∙ ap₂ (λ t (p : NearestPosts). nearest_past t b (row rows b) p) (sym thread) c.nearest_at.ensures in
           nearest_right_push rows nearests o posted right c.nearest_past.result same
           (subst (NearestTo (rows ++ o ∷ []) (length rows)) (sym is) (nearest_to_past rows nearests o posted right b it));
       found =
           c.nearest_past.ensures
-          ∙ ap (λ (p : NearestPosts). nearest_past t b (row rows b) p) c.nearest-at.ensures
+          ∙ ap (λ (p : NearestPosts). nearest_past t b (row rows b) p) c.nearest_at.ensures
           ∙ sym (cond-true (ltb b (length rows)) (nearest_past t b (row rows b) (nearest_at nearests b)) no_posts (lt-ltb b (length rows) c.if-at-rows.true))
           ∙ sym (ap (nearest_added rows nearests t) c.in-Some.is);
     }

@@ -9,7 +9,7 @@ pub returns-in-Ok : goal.returns-in-Ok
 returns-in-Ok g c =
     let e = c.args.examination.now in
     let D = g.D.Discipline.precedence e.discipline in
-    let lent = c.in-ok-races.races in
+    let lent = c.in_ok-races.races in
     let out = c.list.new.places in
     let n = c.in-Ok.written in
     let w = c.in-Ok.ensures in
@@ -29,7 +29,7 @@ pub returns-in-Err : goal.returns-in-Err
 returns-in-Err g c =
     let w = c.in-Err.ensures in
     let few : c.args.places < c.in-Err.short.needed =
-    omega (arith, w.kept.0, c.deref-mut.ensures.len, c.in-ok-races.ensures.len)
+    omega (arith, w.kept.0, c.deref-mut.ensures.len, c.in_ok-races.ensures.len)
     in
     record {
       pass = tt;

@@ -17,7 +17,7 @@ returns-in-Err-2 g c =
       pass = λ x i. absurd (none_in x (subst (In x) c.new.ensures.items i));
       listed =
           λ exact.
-          let once = subst (Lists D (held e) _) c.in-Err.is (c.in-ok-races.ensures.listed exact) in
-          let again = subst (Lists D (held e) _) c.in-Err-2.is (c.in-ok-races-2.ensures.listed exact) in
+          let once = subst (Lists D (held e) _) c.in-Err.is (c.in_ok-races.ensures.listed exact) in
+          let again = subst (Lists D (held e) _) c.in-Err-2.is (c.in_ok-races-2.ensures.listed exact) in
           absurd (no_more_needed D (held e) once.0 again.0 _ _ once.1 once.2 again.1 again.2 again.3);
     }

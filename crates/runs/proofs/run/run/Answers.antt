@@ -13,21 +13,21 @@ use Rattle.runs.proofs.run.run.Goals as goal
 
 pub loop-call-init : goal.loop-call-init
 loop-call-init g c =
-    let o = c.in-ok-examination.ensures in
-    let d = c.in-ok-examination.examination.discipline in
+    let o = c.in_ok-examination.ensures in
+    let d = c.in_ok-examination.examination.discipline in
     let s = opened (g.D.Discipline.admission d) (g.D.Discipline.precedence d) c.args.mask in
-    let w = c.in-ok-answers.ensures.made in (
+    let w = c.in_ok-answers.ensures.made in (
       subst₂ (λ (vs : List _) (h : List Row). Run s [] [] (map answer_of vs) h) (sym w.0) (sym o.0) done,
       o.1,
       refl,
       o.3,
       refl,
       ap length w.0,
-      omega (arith, ap length c.into-iter-call-iterator.ensures.into-iter-gives.0, w, c.len.ensures, c.args.calls.ok.0),
+      omega (arith, ap length c.into_iter-call-iterator.ensures.into_iter-gives.0, w, c.len.ensures, c.args.calls.ok.0),
     )
 
-pub push-reserved-requires : goal.push-reserved-requires
-push-reserved-requires g c =
+pub push_reserved-requires : goal.push_reserved-requires
+push_reserved-requires g c =
     let i = c.loop-call.invariant in
     let whole = ap length i.4 in
     let split = length-append c.loop-call.yielded c.loop-call.call-iterator.rest.items in
@@ -36,7 +36,7 @@ push-reserved-requires g c =
 
 pub loop-call-preserved : goal.loop-call-preserved
 loop-call-preserved g c =
-    let d = c.in-ok-examination.examination.discipline in
+    let d = c.in_ok-examination.examination.discipline in
     let i = c.loop-call.invariant in
     let e = c.loop-call.examination in
     let left = held c.make.new.examination in
@@ -49,8 +49,8 @@ loop-call-preserved g c =
     Step (opened (g.D.Discipline.admission x) (g.D.Discipline.precedence x) n) (held e) (call_of call) (answer_of made) left)
     i.2 i.1 (c.make.ensures.step i.3)
     in
-    let pushed : map answer_of (vec_items c.push-reserved.new.self) ≡ map answer_of (vec_items c.loop-call.answers) ++ answer_of made ∷ [] =
-    ap (map answer_of) c.push-reserved.ensures.items ∙ map-append answer_of (vec_items c.loop-call.answers) (made ∷ [])
+    let pushed : map answer_of (vec_items c.push_reserved.new.self) ≡ map answer_of (vec_items c.loop-call.answers) ++ answer_of made ∷ [] =
+    ap (map answer_of) c.push_reserved.ensures.items ∙ map-append answer_of (vec_items c.loop-call.answers) (made ∷ [])
     in
     let called = map-append call_of c.loop-call.yielded (call ∷ []) in (
       subst₂ (λ xs ys. Run s [] xs ys left) (sym called) (sym pushed) (run_push i.0 step),
@@ -61,22 +61,22 @@ loop-call-preserved g c =
           ∙ (ap (λ xs. c.loop-call.yielded ++ xs) (sym c.in-Some.ensures.steps.0) ∙ i.4),
       omega (
         arith,
-        ap length c.push-reserved.ensures.items,
+        ap length c.push_reserved.ensures.items,
         length-append (vec_items c.loop-call.answers) (made ∷ []),
         length-append c.loop-call.yielded (call ∷ []),
         i.5,
       ),
-      omega (arith, c.push-reserved.ensures.capacity, i.6),
+      omega (arith, c.push_reserved.ensures.capacity, i.6),
     )
 
 pub returns : goal.returns
 returns g c =
-    let o = c.in-ok-examination.ensures in
+    let o = c.in_ok-examination.ensures in
     let i = c.loop-call.invariant in
     let rest = c.loop-call.call-iterator.rest.items in
     let none : length rest ≡ 0 = search rules in
     let all : c.loop-call.yielded ≡ vec_items c.args.calls =
-    none_left c.loop-call.yielded rest (vec_items c.args.calls) none (i.4 ∙ c.into-iter-call-iterator.ensures.into-iter-gives.0)
+    none_left c.loop-call.yielded rest (vec_items c.args.calls) none (i.4 ∙ c.into_iter-call-iterator.ensures.into_iter-gives.0)
     in
     let answers = map answer_of (vec_items c.loop-call.answers) in
     let left = held c.loop-call.examination in

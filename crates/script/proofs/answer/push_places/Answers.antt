@@ -9,7 +9,7 @@ loop-place-init c = sym (append-nil (string_bytes c.args.text.now))
 pub loop-place-preserved : goal.loop-place-preserved
 loop-place-preserved c =
     let text = string_bytes c.args.text.now in
-    same_text text (also text _ _ c.loop-place.invariant c.in-ok-write.ensures.bytes)
+    same_text text (also text _ _ c.loop-place.invariant c.in_ok-write.ensures.bytes)
     (sym (each_more place_line c.args.places.now c.loop-place.place-index _ c.loop-place-test.true))
 
 pub returns : goal.returns

@@ -4,9 +4,9 @@ use Rattle.script.proofs.Utf8.{line_utf8}
 use Rattle.script.proofs.Words.{none_read}
 use Rattle.script.proofs.read.read_line.Goals as goal
 
-pub returns-in-err-text : goal.returns-in-err-text
-returns-in-err-text c =
-    none_read _ _ c.from-residual.ensures
+pub returns-in_err-text : goal.returns-in_err-text
+returns-in_err-text c =
+    none_read _ _ c.from_residual.ensures
     (λ l fits e.
-    no_ok _ _ c.from-utf8.result c.in-err-text.ensures.value c.from-utf8.ensures.cases
+    no_ok _ _ c.from_utf8.result c.in_err-text.ensures.value c.from_utf8.ensures.cases
     (subst IsUtf8 e (line_utf8 l fits)))

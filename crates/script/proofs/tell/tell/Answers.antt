@@ -5,26 +5,26 @@ use Rattle.script.specs.Texts.{FirstLine}
 use Rattle.script.proofs.ToldLines.{run_told, no_opening_said, no_discipline_said}
 use Rattle.script.proofs.tell.tell.Goals as goal
 
-pub returns-in-default : goal.returns-in-default
-returns-in-default c =
-    let said = ap (λ t. string_bytes t) c.refusal.ensures.0 ∙ c.in-ok-format.ensures.ok ∙ no_opening_said in
+pub returns-in_default : goal.returns-in_default
+returns-in_default c =
+    let said = ap (λ t. string_bytes t) c.refusal.ensures.0 ∙ c.in_ok-format.ensures.ok ∙ no_opening_said in
     subst₂ (λ t w. Tells c.args.script.now t w) (sym said) (sym c.refusal.ensures.1)
-    (opens_nothing c.first-line.ensures (λ d m fits e. c.in-default.ensures (d, m) fits e))
+    (opens_nothing c.first_line.ensures (λ d m fits e. c.in_default.ensures (d, m) fits e))
 
-pub returns-in-ok-read : goal.returns-in-ok-read
-returns-in-ok-read c =
+pub returns-in_ok-read : goal.returns-in_ok-read
+returns-in_ok-read c =
     IfOk-weaker c.answered.result _ _
     (λ told ran.
-    run_told c.args.script.now c.first-line.result.0.now c.first-line.result.1.now c.in-Some-new.kind
-    c.in-Some.number c.in-Some.mask c.in-ok-read.field-0 (string_bytes told.text) told.whole
-    c.first-line.ensures c.in-Some.ensures c.in-Some-new.ensures c.in-ok-read.ensures ran)
+    run_told c.args.script.now c.first_line.result.0.now c.first_line.result.1.now c.in-Some-new.kind
+    c.in-Some.number c.in-Some.mask c.in_ok-read.field-0 (string_bytes told.text) told.whole
+    c.first_line.ensures c.in-Some.ensures c.in-Some-new.ensures c.in_ok-read.ensures ran)
     c.answered.ensures
 
-pub returns-in-ok-format-2 : goal.returns-in-ok-format-2
-returns-in-ok-format-2 c =
-    let said = ap (λ t. string_bytes t) c.refusal-in-None.ensures.0 ∙ c.in-ok-format-2.ensures.ok ∙ no_discipline_said in
+pub returns-in_ok-format-2 : goal.returns-in_ok-format-2
+returns-in_ok-format-2 c =
+    let said = ap (λ t. string_bytes t) c.refusal-in-None.ensures.0 ∙ c.in_ok-format-2.ensures.ok ∙ no_discipline_said in
     let opening = c.in-Some.ensures in
     subst₂ (λ t w. Tells c.args.script.now t w) (sym said) (sym c.refusal-in-None.ensures.1)
     (no_discipline c.in-Some.number c.in-Some.mask
-    (subst (λ l. FirstLine c.args.script.now l c.first-line.result.1.now) (sym opening.1) c.first-line.ensures)
+    (subst (λ l. FirstLine c.args.script.now l c.first_line.result.1.now) (sym opening.1) c.first_line.ensures)
     opening.0 c.in-None.ensures)

@@ -13,7 +13,7 @@ loop-holder-preserved c =
     let lx : i < length xs = omega arith in
     let ly : i < length ys = omega arith in (
       simp length-set (omega arith),
-      ap (set ys i) c.freed-by.ensures
+      ap (set ys i) c.freed_by.ensures
           ∙ map_over_more (freed c.args.thread) xs ys i (holder_at ys i) lx c.loop-holder.invariant.1
           (get_or_default ys i None (holder_at ys i) ly),
     )

@@ -8,7 +8,7 @@ pub loop-n-preserved : goal.loop-n-preserved
 loop-n-preserved c =
     let l : c.loop-n.n < length c.loop-n.threads = omega arith in (
       simp length-set (omega arith),
-      rw c.first-thread.ensures
+      rw c.first_thread.ensures
           (fill_by_more (λ t. unstarted (bit c.args.mask t)) c.loop-n.threads c.loop-n.n (unstarted false) l
           c.loop-n.invariant.1),
     )

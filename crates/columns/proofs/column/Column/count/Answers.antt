@@ -9,10 +9,10 @@ loop-word-init c = tally_none _
 pub loop-word-preserved : goal.loop-word-preserved
 loop-word-preserved c =
     counted c.args.self.now c.loop-word.word-index c.loop-word.n c.loop-word-test.true
-    c.loop-word-test.element-fits.fits c.loop-word.invariant
+    c.loop-word-test.element_fits.fits c.loop-word.invariant
 
-pub overflow-add-n : goal.overflow-add-n
-overflow-add-n c =
+pub overflow_add-n : goal.overflow_add-n
+overflow_add-n c =
     let e = loop-word-preserved c in
     let small = tally_le (has c.args.self.now) (64 * (c.loop-word.word-index + 1)) in
     record { fits = omega arith }

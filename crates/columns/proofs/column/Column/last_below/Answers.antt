@@ -6,8 +6,8 @@ use Rattle.columns.proofs.column.Column.last_below.Goals as goal
 pub loop-top-init : goal.loop-top-init
 loop-top-init c = (omega arith, omega arith, λ k a l. has_past c.args.self.now k (omega arith))
 
-pub overflow-sub-result : goal.overflow-sub-result
-overflow-sub-result c =
+pub overflow_sub-result : goal.overflow_sub-result
+overflow_sub-result c =
     let fit = zeros_fit c.args.self.now c.loop-top.top c.args.end c.loop-top-test.true c.loop-top.invariant c.if-word-ne0.true in
     omega arith
 

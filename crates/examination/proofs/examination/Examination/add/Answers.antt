@@ -9,7 +9,7 @@ pub returns : goal.returns
 returns g c =
     let e = c.args.self.now in
     record {
-      adds = (sym c.in-default.ensures, c.file.ensures.position, c.file.ensures.holds);
+      adds = (sym c.in_default.ensures, c.file.ensures.position, c.file.ensures.holds);
       setting = c.file.ensures.setting;
       counts =
           λ x.

@@ -16,7 +16,7 @@ returns g c =
       classed =
           λ x.
           where_stored _ (vec_items e.rows) _ (vec_items e.columns) _ (vec_items e.nearests) c.deref.ensures.value c.deref-2.ensures.value
-          c.deref-3.ensures.value (λ h D. Classed D h c.args.i c.args.j (class_number c.race-class.result))
-          c.race-class.ensures (g.D.Discipline.precedence e.discipline)
+          c.deref-3.ensures.value (λ h D. Classed D h c.args.i c.args.j (class_number c.race_class.result))
+          c.race_class.ensures (g.D.Discipline.precedence e.discipline)
           (posted_first (bit e.mask) (vec_items e.rows) x.sound.fair) x.columns x.nearests;
     }

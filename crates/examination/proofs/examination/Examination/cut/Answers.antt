@@ -9,8 +9,8 @@ use Rattle.examination.specs.Follows.{Follows}
 use Rattle.examination.proofs.Cut.{sound_cut, right_cut}
 use Rattle.examination.proofs.examination.Examination.cut.Goals as goal
 
-pub invariant-of-self : goal.invariant-of-self
-invariant-of-self g c =
+pub invariant_of-self : goal.invariant_of-self
+invariant_of-self g c =
     let e = c.args.self.now in (
       omega (arith, c.truncate.ensures.capacity, e.row_room),
       (

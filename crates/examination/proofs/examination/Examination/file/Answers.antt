@@ -33,45 +33,45 @@ grown mask held held' columns columns' nearests nearests' o row c x q e f g P h 
 fine : (s : Setting) (held : List Row) (o : Row) → refusal s held o ≡ None → refused_by_tables s.initial held o ≡ false
 fine s held o h = not_refused s.initial held o (accepted_allowed s held o (accepted s held o h))
 
-pub push-reserved-requires : goal.push-reserved-requires
-push-reserved-requires g c =
+pub push_reserved-requires : goal.push_reserved-requires
+push_reserved-requires g c =
     let e = c.args.self.now in
     let s = setting_of g.D.Discipline.admission g.D.Discipline.precedence e in
     let a = accepted s (vec_items e.rows) c.args.operation.row c.requires in
     omega (arith, a.room, e.rows.ok.0, e.row_room)
 
-pub push-reserved-requires-2 : goal.push-reserved-requires-2
-push-reserved-requires-2 g c =
+pub push_reserved-requires-2 : goal.push_reserved-requires-2
+push_reserved-requires-2 g c =
     let e = c.args.self.now in
     let s = setting_of g.D.Discipline.admission g.D.Discipline.precedence e in
     let a = accepted s (vec_items e.rows) c.args.operation.row c.requires in
     ∥∥₁_elim e.sound le_prop (λ k. omega (arith, k.column_each, a.room, e.columns.ok.0, e.column_room))
 
-pub push-reserved-requires-3 : goal.push-reserved-requires-3
-push-reserved-requires-3 g c =
+pub push_reserved-requires-3 : goal.push_reserved-requires-3
+push_reserved-requires-3 g c =
     let e = c.args.self.now in
     let s = setting_of g.D.Discipline.admission g.D.Discipline.precedence e in
     let a = accepted s (vec_items e.rows) c.args.operation.row c.requires in
     ∥∥₁_elim e.sound le_prop (λ k. omega (arith, k.nearest_each, a.room, e.nearests.ok.0, e.nearest_room))
 
-pub invariant-of-self : goal.invariant-of-self
-invariant-of-self g c =
+pub invariant_of-self : goal.invariant_of-self
+invariant_of-self g c =
     let e = c.args.self.now in
     let held = vec_items e.rows in
     let o = c.args.operation.row in
     let s = setting_of g.D.Discipline.admission g.D.Discipline.precedence e in
     let a = accepted s held o c.requires in
     let ok = fine s held o c.requires in (
-      omega (arith, c.push-reserved.ensures.capacity, e.row_room),
+      omega (arith, c.push_reserved.ensures.capacity, e.row_room),
       (
-        omega (arith, c.push-reserved-2.ensures.capacity, e.column_room),
+        omega (arith, c.push_reserved-2.ensures.capacity, e.column_room),
         (
-          omega (arith, c.push-reserved-3.ensures.capacity, e.nearest_room),
+          omega (arith, c.push_reserved-3.ensures.capacity, e.nearest_room),
           (
             ∥∥₁_map e.sound
                 (λ k.
-                grown e.mask held _ (vec_items e.columns) _ (vec_items e.nearests) _ o _ _ _ c.row.ensures c.push-reserved.ensures.items
-                c.push-reserved-2.ensures.items c.push-reserved-3.ensures.items
+                grown e.mask held _ (vec_items e.columns) _ (vec_items e.nearests) _ o _ _ _ c.row.ensures c.push_reserved.ensures.items
+                c.push_reserved-2.ensures.items c.push_reserved-3.ensures.items
                 (λ x y z. Sound e.mask x y z c.accept.new.self)
                 (sound_push e.mask held (vec_items e.columns) (vec_items e.nearests) e.state c.accept.new.self o _ _ k a.room
                 c.args.operation.lawful ok
@@ -97,7 +97,7 @@ returns g c =
     let ok = fine s held o c.requires in
     let lawful-o = c.args.operation.lawful in
     let column = c.predecessors-column.result in
-    let task = c.task-of-task.result in
+    let task = c.task_of-task.result in
     let same : c.deref.result.now ≡ held = c.deref.ensures.value in
     let same-columns : c.deref-2.result.now ≡ columns = c.deref-2.ensures.value in
     let at = c.len-position.ensures ∙ e.rows.ok.0 in
@@ -105,7 +105,7 @@ returns g c =
     (λ k. tables_push initial held o k.fair lawful-o ok)
     in
     let tasks : Sound e.mask held columns nearests e.state → (p : ℕ) → is_of task p ≡ member_at held p o =
-    (λ k. c.task-of-task.ensures.member initial held k.follows.matches (λ b. (begin_turn initial held o (accepted_allowed s held o a) b).0))
+    (λ k. c.task_of-task.ensures.member initial held k.follows.matches (λ b. (begin_turn initial held o (accepted_allowed s held o a) b).0))
     in
     let newest :
     Sound e.mask held columns nearests e.state → Right D held columns
@@ -123,7 +123,7 @@ returns g c =
     in
     record {
       position = at;
-      holds = c.push-reserved.ensures.items ∙ ap (λ r. held ++ r ∷ []) c.row.ensures;
+      holds = c.push_reserved.ensures.items ∙ ap (λ r. held ++ r ∷ []) c.row.ensures;
       setting = (refl, refl);
       counts = λ x. counted D held o column _ x.sound.few (newest x.sound x.columns) c.count.ensures;
       exact =
@@ -133,23 +133,23 @@ returns g c =
           let follows =
           c.accept.ensures initial held k.follows ok at (omega (arith, a.room, c.len-position.ensures, e.rows.ok.0))
           in
-          let near : NearestRight (held ++ o ∷ []) (nearests ++ c.nearest-of-nearest.result ∷ []) =
-          subst₂ (λ u v. NearestOfAdded u v c.thread.result.number c.post-of-post.result c.nearest-of-nearest.result)
-          c.deref-3.ensures.value c.deref-4.ensures.value c.nearest-of-nearest.ensures.nearest o (sym c.thread.ensures) first
-          (c.post-of-post.ensures initial held o k.follows.matches (fair k) (tasks k)) k.nearest_each x.nearests
+          let near : NearestRight (held ++ o ∷ []) (nearests ++ c.nearest_of-nearest.result ∷ []) =
+          subst₂ (λ u v. NearestOfAdded u v c.thread.result.number c.post_of-post.result c.nearest_of-nearest.result)
+          c.deref-3.ensures.value c.deref-4.ensures.value c.nearest_of-nearest.ensures.nearest o (sym c.thread.ensures) first
+          (c.post_of-post.ensures initial held o k.follows.matches (fair k) (tasks k)) k.nearest_each x.nearests
           in
           record {
             sound =
-                grown e.mask held _ columns _ nearests _ o _ _ _ c.row.ensures c.push-reserved.ensures.items
-                c.push-reserved-2.ensures.items c.push-reserved-3.ensures.items
+                grown e.mask held _ columns _ nearests _ o _ _ _ c.row.ensures c.push_reserved.ensures.items
+                c.push_reserved-2.ensures.items c.push_reserved-3.ensures.items
                 (λ u v w. Sound e.mask u v w c.accept.new.self)
                 (sound_push e.mask held columns nearests e.state c.accept.new.self o _ _ k a.room lawful-o ok follows);
             columns =
-                grown e.mask held _ columns _ nearests _ o _ _ _ c.row.ensures c.push-reserved.ensures.items
-                c.push-reserved-2.ensures.items c.push-reserved-3.ensures.items (λ u v w. Right D u v)
+                grown e.mask held _ columns _ nearests _ o _ _ _ c.row.ensures c.push_reserved.ensures.items
+                c.push_reserved-2.ensures.items c.push_reserved-3.ensures.items (λ u v w. Right D u v)
                 (right_push D held o columns column first k.column_each x.columns (newest k x.columns));
             nearests =
-                grown e.mask held _ columns _ nearests _ o _ _ _ c.row.ensures c.push-reserved.ensures.items
-                c.push-reserved-2.ensures.items c.push-reserved-3.ensures.items (λ u v w. NearestRight u w) near;
+                grown e.mask held _ columns _ nearests _ o _ _ _ c.row.ensures c.push_reserved.ensures.items
+                c.push_reserved-2.ensures.items c.push_reserved-3.ensures.items (λ u v w. NearestRight u w) near;
           };
     }

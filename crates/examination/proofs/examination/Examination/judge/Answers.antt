@@ -14,8 +14,8 @@ returns-then-len-ge-MOST g c =
     when_full (setting_of g.D.Discipline.admission g.D.Discipline.precedence e) (vec_items e.rows) c.args.operation.row
     (omega (arith, c.if-len-ge-MOST.true, c.len.ensures, e.rows.ok.0))
 
-pub returns-then-is-some : goal.returns-then-is-some
-returns-then-is-some g c =
+pub returns-then-is_some : goal.returns-then-is_some
+returns-then-is_some g c =
     let e = c.args.self.now in
     let s = setting_of g.D.Discipline.admission g.D.Discipline.precedence e in
     let held = vec_items e.rows in
@@ -24,7 +24,7 @@ returns-then-is-some g c =
     told e.sound _ _
     (λ known.
     by_tables s held o _ l (c.judge-fault.ensures (bit e.mask) held known.follows.matches)
-    (sym c.is-some.ensures ∙ c.if-is-some.true))
+    (sym c.is_some.ensures ∙ c.if-is_some.true))
 
 pub returns : goal.returns
 returns g c =
@@ -39,5 +39,5 @@ returns g c =
     let matches = subst (λ x. Matches (bit e.mask) x e.state.tables) (sym same) known.follows.matches in
     let ranged = subst AllInRange (sym same) (all_in_range (bit e.mask) held known.fair) in
     by_discipline s held o _ _ l (c.judge-fault.ensures (bit e.mask) held known.follows.matches)
-    (sym c.is-some.ensures ∙ c.if-is-some.false)
-    (c.judge-turn.ensures s matches ranged refl refl ∙ ap (λ x. discipline_refusal s x o) same))
+    (sym c.is_some.ensures ∙ c.if-is_some.false)
+    (c.judge_turn.ensures s matches ranged refl refl ∙ ap (λ x. discipline_refusal s x o) same))

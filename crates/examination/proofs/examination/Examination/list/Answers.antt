@@ -11,14 +11,14 @@ pub returns : goal.returns
 returns g c =
     let e = c.args.self.now in
     record {
-      kept = c.list-races.ensures.kept;
+      kept = c.list_races.ensures.kept;
       listed =
           λ x.
           where_stored _ (vec_items e.rows) _ (vec_items e.columns) _ (vec_items e.nearests) c.deref.ensures.value c.deref-2.ensures.value
           c.deref-3.ensures.value
           (λ h D.
           length h ≤ 512
-          → (races : List RaceRow) × RaceList D h races × Listed races c.args.places.now c.list-races.new.races c.list-races.result)
-          c.list-races.ensures.listed (g.D.Discipline.precedence e.discipline)
+          → (races : List RaceRow) × RaceList D h races × Listed races c.args.places.now c.list_races.new.races c.list_races.result)
+          c.list_races.ensures.listed (g.D.Discipline.precedence e.discipline)
           (posted_first (bit e.mask) (vec_items e.rows) x.sound.fair) x.columns x.nearests x.sound.few;
     }

@@ -2,11 +2,11 @@ use Rattle.std.proofs.Common.{refl}
 use Rattle.examination.proofs.Nothing.{nothing_sound, nothing_right, nothing_near}
 use Rattle.examination.proofs.examination.Examination.open.Goals as goal
 
-pub invariant-of-result : goal.invariant-of-result
-invariant-of-result g c =
-    let rows = c.in-ok-rows.ensures in
-    let columns = c.in-ok-columns.ensures in
-    let nearests = c.in-ok-nearests.ensures in (
+pub invariant_of-result : goal.invariant_of-result
+invariant_of-result g c =
+    let rows = c.in_ok-rows.ensures in
+    let columns = c.in_ok-columns.ensures in
+    let nearests = c.in_ok-nearests.ensures in (
       rows.capacity,
       (
         columns.capacity,
@@ -16,9 +16,9 @@ invariant-of-result g c =
 
 pub returns : goal.returns
 returns g c =
-    let rows = c.in-ok-rows.ensures.items in
-    let columns = c.in-ok-columns.ensures.items in
-    let nearests = c.in-ok-nearests.ensures.items in
+    let rows = c.in_ok-rows.ensures.items in
+    let columns = c.in_ok-columns.ensures.items in
+    let nearests = c.in_ok-nearests.ensures.items in
     let state = c.new.ensures in (
       rows,
       refl,

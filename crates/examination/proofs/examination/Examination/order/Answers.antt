@@ -11,8 +11,8 @@ returns-then-i-j g c =
       ordered = λ x. same c.if-i-j.true;
     }
 
-pub returns-then-is-before : goal.returns-then-is-before
-returns-then-is-before g c =
+pub returns-then-is_before : goal.returns-then-is_before
+returns-then-is_before g c =
     let e = c.args.self.now in
     let l = c.if-j-held.false in
     record {
@@ -21,11 +21,11 @@ returns-then-is-before g c =
           λ x.
           before
           ((x.columns c.args.i c.args.j (omega (arith, c.len-held.ensures, e.rows.ok.0, l))).0
-          (sym c.is-before.ensures ∙ c.if-is-before.true));
+          (sym c.is_before.ensures ∙ c.if-is_before.true));
     }
 
-pub returns-then-is-before-2 : goal.returns-then-is-before-2
-returns-then-is-before-2 g c =
+pub returns-then-is_before-2 : goal.returns-then-is_before-2
+returns-then-is_before-2 g c =
     let e = c.args.self.now in
     let l = c.if-j-held.false in
     record {
@@ -34,11 +34,11 @@ returns-then-is-before-2 g c =
           λ x.
           after
           ((x.columns c.args.j c.args.i (omega (arith, c.len-held.ensures, e.rows.ok.0, l))).0
-          (sym c.is-before-else-is-before.ensures ∙ c.if-is-before-2.true));
+          (sym c.is_before-else-is_before.ensures ∙ c.if-is_before-2.true));
     }
 
-pub returns-else-is-before-2 : goal.returns-else-is-before-2
-returns-else-is-before-2 g c =
+pub returns-else-is_before-2 : goal.returns-else-is_before-2
+returns-else-is_before-2 g c =
     let e = c.args.self.now in
     let l = c.if-j-held.false in
     record {
@@ -49,9 +49,9 @@ returns-else-is-before-2 g c =
           (λ b.
           true≢false
           (sym ((x.columns c.args.i c.args.j (omega (arith, c.len-held.ensures, e.rows.ok.0, l))).1 b)
-          ∙ (sym c.is-before.ensures ∙ c.if-is-before.false)))
+          ∙ (sym c.is_before.ensures ∙ c.if-is_before.false)))
           (λ b.
           true≢false
           (sym ((x.columns c.args.j c.args.i (omega (arith, c.len-held.ensures, e.rows.ok.0, l))).1 b)
-          ∙ (sym c.is-before-else-is-before.ensures ∙ c.if-is-before-2.false)));
+          ∙ (sym c.is_before-else-is_before.ensures ∙ c.if-is_before-2.false)));
     }

@@ -12,12 +12,12 @@ returns c =
     let o = c.args.operation.row in
     let tables = c.args.self.now.tables in
     let a = allowed initial held o fine in
-    let tasks = c.task-of-task.ensures.member initial held follows.matches (λ e. (begin_turn initial held o a e).0) in
+    let tasks = c.task_of-task.ensures.member initial held follows.matches (λ e. (begin_turn initial held o a e).0) in
     let own = follows.matches.threads_match o.thread (thread_fits o c.args.operation.lawful) in
     let looping =
-    c.is-looping-looping.ensures ∙ (ap (λ t. (thread_at tables.threads t).looping) c.thread.ensures ∙ own.looping_is)
+    c.is_looping-looping.ensures ∙ (ap (λ t. (thread_at tables.threads t).looping) c.thread.ensures ∙ own.looping_is)
     in
     record {
       matches = c.accept.ensures.agrees initial held follows.matches (allowed_none initial held o fine) at room;
-      indexed = c.note-operation.ensures.indexed held follows.indexed at room looping tasks;
+      indexed = c.note_operation.ensures.indexed held follows.indexed at room looping tasks;
     }

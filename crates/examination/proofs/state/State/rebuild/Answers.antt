@@ -9,7 +9,7 @@ use Rattle.recording.specs.Masks.{bit}
 use Rattle.rules.specs.Fair.{refused_by_tables}
 use Rattle.examination.specs.Follows.{Follows}
 use Rattle.examination.proofs.state.State.rebuild.Goals as goal
-use Rattle.examination.proofs.state.State.rebuild.Goals.{in-Ok, in-default}
+use Rattle.examination.proofs.state.State.rebuild.Goals.{in-Ok, in_default}
 
 pub loop-position-preserved : goal.loop-position-preserved
 loop-position-preserved c fair few =
@@ -18,7 +18,7 @@ loop-position-preserved c fair few =
     let i = c.loop-position.position in
     let taken = c.loop-position-test.true in
     let at = fair i taken in
-    elim c.match-from-row.branch [
+    elim c.match-from_row.branch [
       | in-Ok w ↦
           (let row_is = w.in-Ok.ensures.1 in
           let l : i ≤ length rows = omega (arith, taken) in
@@ -28,10 +28,10 @@ loop-position-preserved c fair few =
           (ap (refused_by_tables initial (take i rows)) row_is ∙ at.1)
           (sym (length-take-le i rows l))
           small))
-      | in-default w ↦
+      | in_default w ↦
           absurd
           (clash
-          (ap (is_some {T = RecordFault}) (sym (faultless (row rows i) at.0) ∙ w.in-default.ensures)))
+          (ap (is_some {T = RecordFault}) (sym (faultless (row rows i) at.0) ∙ w.in_default.ensures)))
     ]
 
 pub returns : goal.returns

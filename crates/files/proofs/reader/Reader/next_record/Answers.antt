@@ -8,7 +8,7 @@ returns c =
     record {
       part = (
         refl,
-        c.in-ok-bytes.ensures.cases.same
+        c.in_ok-bytes.ensures.cases.same
             ∙ ap (take 12) (between_to_end records _ (length records) (omega arith)),
       );
       moves = refl;

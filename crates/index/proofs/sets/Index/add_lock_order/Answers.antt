@@ -10,6 +10,6 @@ pub returns : goal.returns
 returns c =
     λ held indexed i.
     let old = has c.args.column.now i in
-    c.join-except.ensures i
+    c.join_except.ensures i
     ∙ ((λ x. old || (indexed.releases c.args.lock i c.requires.1 x && not (indexed.own c.args.thread i c.requires.0 x)))
     ∙ ap (λ b. old || b) (within_both (ltb i (length held)) _ _))

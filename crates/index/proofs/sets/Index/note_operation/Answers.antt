@@ -9,15 +9,15 @@ returns c =
     let o = c.args.operation.row in
     let position = c.args.position in
     let before = c.args.self.now in
-    let middle = c.note-kinds.new.self in
-    let after = c.note-rest.new.self in
+    let middle = c.note_kinds.new.self in
+    let after = c.note_rest.new.self in
     let t = c.thread-thread.ensures in
     let kinds : NotedKinds o position before middle =
     subst (λ r. NotedKinds r position before middle) (ap (λ u. row_of u c.action.result) t ∙ c.action.ensures)
-    c.note-kinds.ensures
+    c.note_kinds.ensures
     in
     let rest : NotedRest o.thread c.args.looping c.args.task position middle after =
-    subst (λ u. NotedRest u c.args.looping c.args.task position middle after) t c.note-rest.ensures
+    subst (λ u. NotedRest u c.args.looping c.args.task position middle after) t c.note_rest.ensures
     in
     record {
       indexed =

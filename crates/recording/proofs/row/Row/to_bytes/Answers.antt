@@ -5,5 +5,5 @@ use Rattle.recording.proofs.row.Row.to_bytes.Goals as goal
 
 pub returns : goal.returns
 returns c =
-    spelled c.args.self _ _ _ c.to-le-bytes.ensures c.to-le-bytes-2.ensures
-    (c.to-le-bytes-3.ensures ∙ bytes_4 c.args.self.delay)
+    spelled c.args.self _ _ _ c.to_le_bytes.ensures c.to_le_bytes-2.ensures
+    (c.to_le_bytes-3.ensures ∙ bytes_4 c.args.self.delay)

@@ -5,30 +5,30 @@ use Rattle.script.specs.Texts.{before}
 use Rattle.script.proofs.Words.{none_read, number_no_space}
 use Rattle.script.proofs.line.reading.first.Goals as goal
 
-pub returns-in-err-word : goal.returns-in-err-word
-returns-in-err-word c =
-    none_read _ _ c.from-residual.ensures
+pub returns-in_err-word : goal.returns-in_err-word
+returns-in_err-word c =
+    none_read _ _ c.from_residual.ensures
     (λ n rest le e.
-    MatchOption-at_none _ _ c.in-err-word.was
-    (split_after 32 c.args.words.now (decimal n) rest c.split-once.result c.split-once.ensures.cases (omega arith)
+    MatchOption-at_none _ _ c.in_err-word.was
+    (split_after 32 c.args.words.now (decimal n) rest c.split_once.result c.split_once.ensures.cases (omega arith)
     (sym e) (number_no_space n (omega arith))))
 
-pub returns-in-err-n : goal.returns-in-err-n
-returns-in-err-n c =
-    none_read _ _ c.from-residual-in-err-n.ensures
+pub returns-in_err-n : goal.returns-in_err-n
+returns-in_err-n c =
+    none_read _ _ c.from_residual-in_err-n.ensures
     (λ n rest le e.
     let s =
-    MatchOption-at_some _ _ _ c.in-ok-word.was
-    (split_after 32 c.args.words.now (decimal n) rest c.split-once.result c.split-once.ensures.cases (omega arith)
+    MatchOption-at_some _ _ _ c.in_ok-word.was
+    (split_after 32 c.args.words.now (decimal n) rest c.split_once.result c.split_once.ensures.cases (omega arith)
     (sym e) (number_no_space n (omega arith)))
     in
-    c.in-err-n.ensures n le (sym s.0))
+    c.in_err-n.ensures n le (sym s.0))
 
 pub returns : goal.returns
 returns c =
     let s =
-    MatchOption-at_some _ _ _ c.in-ok-word.was
-    (split_parts 32 c.args.words.now c.split-once.result c.split-once.ensures.cases (omega arith))
+    MatchOption-at_some _ _ _ c.in_ok-word.was
+    (split_parts 32 c.args.words.now c.split_once.result c.split_once.ensures.cases (omega arith))
     in
-    let n = c.in-ok-n.ensures in
-    (n.0, ap (λ w. before w c.in-ok-word.rest.now) n.1 ∙ sym s.0)
+    let n = c.in_ok-n.ensures in
+    (n.0, ap (λ w. before w c.in_ok-word.rest.now) n.1 ∙ sym s.0)

@@ -8,8 +8,8 @@ returns c =
     let calls = vec_items c.args.self.now.calls in (
       refl,
       (
-        c.in-ok-push.ensures.items,
-        ap (map call_of) c.in-ok-push-2.ensures.items ∙ map-append call_of calls (c.args.call ∷ []),
+        c.in_ok-push.ensures.items,
+        ap (map call_of) c.in_ok-push-2.ensures.items ∙ map-append call_of calls (c.args.call ∷ []),
         refl,
       ),
       refl,

@@ -6,10 +6,10 @@ use Rattle.script.specs.declared.fault.LineFault.TheVariants.{NotACall, OpenedTw
 use Rattle.script.proofs.Taken.{call_taken}
 use Rattle.script.proofs.read.Script.take.Goals as goal
 
-pub returns-in-default : goal.returns-in-default
-returns-in-default c =
+pub returns-in_default : goal.returns-in_default
+returns-in_default c =
     let left = c.args.self.now.left in
-    (subst (λ l. Asks left l (no_step NotACall) left) (sym c.in-default.is) no_line, refl)
+    (subst (λ l. Asks left l (no_step NotACall) left) (sym c.in_default.is) no_line, refl)
 
 pub returns-in-Open : goal.returns-in-Open
 returns-in-Open c =

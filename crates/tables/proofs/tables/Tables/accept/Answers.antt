@@ -12,7 +12,7 @@ returns c =
     let action = c.action-action.result in
     let row_is : row_of o.thread action ≡ o = c.action-action.ensures in
     let changed-is : c.number.result ≡ changed o =
-    c.number.ensures.0 ∙ c.changed-thread-changed.ensures
+    c.number.ensures.0 ∙ c.changed_thread-changed.ensures
     ∙ ap (λ t. changed (row_of t action)) c.thread-thread.ensures
     ∙ ap changed row_is
     in

@@ -9,7 +9,7 @@ pub returns : goal.returns
 returns c initial held m =
     let tables = c.args.self.now in
     let o = c.args.operation.row in
-    c.judge-action.ensures
+    c.judge_action.ensures
     ∙ ap (λ t. verdict tables (row_of t c.action.result)) c.thread.ensures
     ∙ ap (verdict tables) c.action.ensures
     ∙ verdict_is initial held tables m o (bounded o c.args.operation.lawful)

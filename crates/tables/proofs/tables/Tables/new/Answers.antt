@@ -4,5 +4,5 @@ use Rattle.tables.proofs.tables.Tables.new.Goals as goal
 
 pub returns : goal.returns
 returns c =
-    none_held (bit c.args.mask) c.first-threads.result c.first-threads.ensures.whole
-    c.first-threads.ensures.each
+    none_held (bit c.args.mask) c.first_threads.result c.first_threads.ensures.whole
+    c.first_threads.ensures.each
