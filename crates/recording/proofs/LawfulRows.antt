@@ -1,7 +1,6 @@
 -- What a lawful row gives.
-use Rattle.std.proofs.Common.{◌≡◌, ℕ, zero, suc, ◌^◌, ◌<◌, ◌≤◌, Bool, true, false, not, ◌&&◌, eqb, ltb, List, [], ◌∷◌, is_some, Some, None, Option, sym, refl, ap, ◌∙◌, arith, ltb-false, ltb-true, eqb-true}
+use Rattle.std.proofs.Common.{◌≡◌, ℕ, zero, suc, ◌^◌, ◌<◌, ◌≤◌, Bool, true, false, not, ◌&&◌, eqb, ltb, List, [], ◌∷◌, is_some, Some, None, Option, sym, refl, ap, arith, ltb-false, ltb-true, eqb-true}
 use borrow.Author.Tests.{not-false, clash}
-use Rattle.recording.specs.declared.faults.record.RecordFault.{RecordFault}
 use Rattle.recording.specs.declared.row.Row.{Row}
 use Rattle.recording.specs.Codes.{known, has_target, has_task, has_lock, has_item}
 use Rattle.recording.specs.Faults.{first}

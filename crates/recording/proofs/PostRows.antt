@@ -1,5 +1,5 @@
 -- The marks and the delay of a lawful post are those of its row.
-use Rattle.std.proofs.Common.{◌≡◌, ℕ, zero, suc, ◌+◌, ◌%◌, ◌<◌, ◌≤◌, Bool, true, false, cond, ◌&&◌, eqb, leb, Some, None, unwrap_or, sym, refl, ap, ◌∙◌, subst, arith, leb-false}
+use Rattle.std.proofs.Common.{◌≡◌, ℕ, zero, suc, ◌%◌, ◌≤◌, Bool, true, false, cond, ◌&&◌, eqb, leb, Some, None, unwrap_or, sym, refl, ap, ◌∙◌, subst, arith, leb-false}
 use borrow.Author.Tests.{lt-leb}
 use Rattle.recording.specs.declared.marks.Marks.{Marks}
 use Rattle.recording.specs.declared.row.Row.{Row}

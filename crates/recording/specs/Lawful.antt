@@ -1,5 +1,5 @@
 -- Lawful rows: those that have none of the faults of a record.
-use Rattle.std.specs.Prelude.{ℕ, ◌^◌, Bool, cond, not, ◌&&◌, ◌||◌, List, [], ◌∷◌, is_some, Option, ◌==◌, nat_le, nat_lt}
+use Rattle.std.specs.Prelude.{ℕ, ◌^◌, Bool, cond, not, ◌&&◌, List, [], ◌∷◌, is_some, Option, ◌==◌, nat_le, nat_lt}
 use Rattle.recording.specs.declared.row.Row.{Row}
 use Rattle.recording.specs.declared.faults.record.RecordFault.{RecordFault}
 use Rattle.recording.specs.declared.faults.record.RecordFault.TheVariants.{

@@ -1,5 +1,5 @@
 -- The marks of a post, as numbers of its row: 1 environment, 2 delayed, 3 both.
-use Rattle.std.specs.Prelude.{ℕ, ◌+◌, ◌%◌, Bool, cond, is_some, Some, None, Option, ◌==◌, nat_le}
+use Rattle.std.specs.Prelude.{ℕ, ◌+◌, ◌%◌, cond, is_some, Some, None, ◌==◌, nat_le}
 use Rattle.std.specs.Option.{unwrap_or}
 use Rattle.recording.specs.declared.marks.Marks.{Marks}
 use Rattle.recording.specs.declared.row.Row.{Row}

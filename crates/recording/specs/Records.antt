@@ -1,5 +1,5 @@
 -- The twelve bytes of a record.
-use Rattle.std.specs.Prelude.{ℕ, List, [], ◌∷◌, ◌++◌, slice_index}
+use Rattle.std.specs.Prelude.{ℕ, List, ◌∷◌, ◌++◌, slice_index}
 use Rattle.recording.specs.declared.row.Row.{Row}
 use Rattle.recording.specs.Bytes.{bytes_of, number_at}
 

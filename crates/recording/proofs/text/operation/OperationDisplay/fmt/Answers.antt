@@ -20,12 +20,12 @@ returns-clause-writes g c =
     let f₁ = c.write.new.self in
     let f₂ = c.if-has_item.f in
     let f₃ = c.if-has_target.f in
-    let start = c.in_ok-write.ensures.shows plainly (refl {a = true}) in
+    let start = c.in_ok-write.ensures.writes plainly (refl {a = true}) in
     let item : HasWritten took f₁ (further (has_item row.code) row.item) f₂ =
     elim c.if-has_item.branch [
       | then-has_item+in_ok-write-2 w
-          ↦ put_further took (has_item row.code) c.has_item.result row.item f₁ w.write-then-has_item.last.self f₂ c.has_item.ensures w.if-has_item.true w.f-is
-          (w.in_ok-write-2.ensures.shows start.plain (refl {a = true}))
+          ↦ put_further took (has_item row.code) c.has_item.result row.item f₁ w.write-then-has_item.new.self f₂ c.has_item.ensures w.if-has_item.true w.f-is
+          (w.in_ok-write-2.ensures.writes start.plain (refl {a = true}))
       | else-has_item w
           ↦ put_no_further took (has_item row.code) c.has_item.result row.item f₁ f₂ c.has_item.ensures w.if-has_item.false w.f-is start.plain
     ]
@@ -33,8 +33,8 @@ returns-clause-writes g c =
     let target : HasWritten took f₂ (further (has_target row.code) row.target) f₃ =
     elim c.if-has_target.branch [
       | then-has_target+in_ok-write-3 w
-          ↦ put_further took (has_target row.code) c.has_target.result row.target f₂ w.write-then-has_target.last.self f₃ c.has_target.ensures w.if-has_target.true w.f-is
-          (w.in_ok-write-3.ensures.shows item.plain (refl {a = true}))
+          ↦ put_further took (has_target row.code) c.has_target.result row.target f₂ w.write-then-has_target.new.self f₃ c.has_target.ensures w.if-has_target.true w.f-is
+          (w.in_ok-write-3.ensures.writes item.plain (refl {a = true}))
       | else-has_target w
           ↦ put_no_further took (has_target row.code) c.has_target.result row.target f₂ f₃ c.has_target.ensures w.if-has_target.false w.f-is item.plain
     ]
