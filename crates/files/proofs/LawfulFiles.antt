@@ -1,5 +1,5 @@
 -- What a lawful header gives.
-use Rattle.std.proofs.Common.{◌≡◌, ℕ, ◌+◌, ◌*◌, ◌≤◌, List, length, get_or, Some, None, rules}
+use Rattle.std.proofs.Common.{◌≡◌, ℕ, ◌+◌, ◌*◌, ◌≤◌, List, length, get_or, None, rules}
 use Rattle.recording.specs.Bytes.{number_at}
 use Rattle.files.specs.Files.{file_fault, count_in}
 

@@ -1,4 +1,4 @@
-use Rattle.std.proofs.Common.{refl, rules}
+use Rattle.std.proofs.Common.{refl}
 use Rattle.files.proofs.Parts.{past_header}
 use Rattle.files.proofs.reader.Reader.new.Goals as goal
 
