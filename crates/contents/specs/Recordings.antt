@@ -1,7 +1,7 @@
 -- What a value that was read says.
 use Rattle.std.specs.Prelude.{◌≡◌, ℕ, List, Ok, Err, vec_items, Result, Vec}
 use Rattle.std.specs.declared.alloc.Global.{Global}
-use Rattle.contents.specs.declared.recording.Recording.{Recording}
+use Rattle.contents.specs.declared.recorded.Recording.{Recording}
 use Rattle.contents.specs.declared.faults.error.ReadError.{ReadError}
 use Rattle.contents.specs.declared.faults.error.ReadError.TheVariants.{Fault, Memory}
 use Rattle.recording.specs.Disciplines.{discipline_number}

@@ -2,5 +2,5 @@
 #![tactic(auto)]
 
 pub mod faults;
-pub mod recording;
+pub mod recorded;
 pub mod writer;

@@ -3,7 +3,7 @@ ghost use Rattle.listing.specs.Inspected.{Lists};
 
 use crate::lines::push_lines;
 use contents::faults::error::ReadError;
-use contents::recording::Recording;
+use contents::recorded::Recording;
 use std::alloc::Global;
 
 /// The lines of what a file holds, once it was read whole and written again.

@@ -3,7 +3,7 @@ ghost use Rattle.std.specs.Prelude.{◌≡◌, ◌++◌, string_bytes, OnOk};
 ghost use Rattle.contents.specs.Recordings.{contents_of};
 ghost use Rattle.listing.specs.Listings.{threads_below, threads_line, head_lines, operation_lines, lines_of};
 
-use contents::recording::Recording;
+use contents::recorded::Recording;
 use std::fmt;
 
 /// Adds the threads of a mask, a space before each.

@@ -2,7 +2,7 @@
 #![tactic(auto)]
 
 #[cfg(test)]
-mod files;
+mod headers;
 #[cfg(test)]
 mod lines;
 #[cfg(test)]

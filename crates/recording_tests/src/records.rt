@@ -1,6 +1,6 @@
 //! The faults of a record, each at each of its places.
 use contents::faults::error::ReadError;
-use contents::recording::Recording;
+use contents::recorded::Recording;
 use files::faults::read::ReadFault;
 use recording::numbers::{Lock, Task, Thread};
 use std::alloc::Global;

@@ -1,7 +1,7 @@
 //! Writing, and the writer's refusals.
 use contents::faults::write::WriteFault;
-use contents::recording::Recording;
-use contents::recording::said::copy;
+use contents::recorded::Recording;
+use contents::recorded::said::copy;
 use contents::writer::write;
 use files::faults::file::FileFault;
 use files::faults::read::AtRecord;

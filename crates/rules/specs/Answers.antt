@@ -1,5 +1,5 @@
 -- What the calls answer about what is held.
-use Rattle.std.specs.Prelude.{◌≡◌, ℕ, ◌<◌, min, max, Bool, true, ◌⊎◌, ◌↔◌, List, [], ◌∷◌, length, ◌≢◌}
+use Rattle.std.specs.Prelude.{◌≡◌, ℕ, ◌<◌, min, max, Bool, true, ◌⊎◌, ◌↔◌, List, [], ◌∷◌, ◌≢◌}
 use Rattle.recording.specs.declared.row.Row.{Row}
 use Rattle.columns.specs.Positions.{tally}
 use Rattle.happens_before.specs.Order.{Precedence, Before as IsBefore}

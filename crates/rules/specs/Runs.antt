@@ -1,5 +1,5 @@
 -- Whole runs: any sequence of calls on a newly opened examination, and what each answers and leaves held.
-use Rattle.std.specs.Prelude.{◌≡◌, ℕ, ◌<◌, ◌≤◌, Bool, true, ◌⊎◌, List, [], ◌∷◌, ◌++◌, length, take, drop, Some, None}
+use Rattle.std.specs.Prelude.{◌≡◌, ℕ, ◌<◌, ◌≤◌, true, ◌⊎◌, List, [], ◌∷◌, ◌++◌, length, take, drop, Some, None}
 use Rattle.recording.specs.Lawful.{lawful}
 use Rattle.recording.specs.declared.row.Row.{Row}
 use Rattle.happens_before.specs.Order.{Before}

@@ -13,11 +13,11 @@ use Rattle.contents.proofs.writer.write.Goals as goal
 
 pub returns-then-discipline-gt2 : goal.returns-then-discipline-gt2
 returns-then-discipline-gt2 c =
-    record { writes = (no_discipline c.if-discipline-gt2.true, refl); reads-back = tt }
+    record { writes = (no_discipline c.if-discipline-gt2.true, refl); reads_back = tt }
 
 pub returns-then-rows-gt512 : goal.returns-then-rows-gt512
 returns-then-rows-gt512 c =
-    record { writes = (too_many c.if-discipline-gt2.false c.if-rows-gt512.true, refl); reads-back = tt }
+    record { writes = (too_many c.if-discipline-gt2.false c.if-rows-gt512.true, refl); reads_back = tt }
 
 pub returns-in_err-judge_rows : goal.returns-in_err-judge_rows
 returns-in_err-judge_rows c =
@@ -26,7 +26,7 @@ returns-in_err-judge_rows c =
     (record {
       writes =
           (unlawful_row c.if-discipline-gt2.false c.if-rows-gt512.false c.in_err-judge_rows.ensures, refl);
-      reads-back = tt;
+      reads_back = tt;
     })
 
 -- what is written, once it is judged
@@ -54,7 +54,7 @@ returns-then-buffer-needed c =
     in
     record {
       writes = (refused_short d (length c.args.buffer.now) h c.if-buffer-needed.true, refl);
-      reads-back = tt;
+      reads_back = tt;
     }
 
 pub returns : goal.returns
@@ -71,5 +71,5 @@ returns c =
         c.if-buffer-needed.false,
         whole_file d c.args.buffer.now _ _ _ c.header_bytes.ensures c.put.ensures c.write_records.ensures,
       );
-      reads-back = read_back d h;
+      reads_back = read_back d h;
     }

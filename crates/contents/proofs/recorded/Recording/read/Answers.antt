@@ -2,7 +2,7 @@ use Rattle.std.proofs.Common.{ℕ, ◌<◌, get_or, vec_items, arith}
 use Rattle.std.proofs.lemmas.Result.{err_from_is_err_and}
 use Rattle.files.specs.Files.Faulty.{in_header}
 use Rattle.contents.proofs.FileBytes.{contents_lawful, file_again}
-use Rattle.contents.proofs.recording.Recording.read.Goals as goal
+use Rattle.contents.proofs.recorded.Recording.read.Goals as goal
 
 pub returns-in_err-header : goal.returns-in_err-header
 returns-in_err-header c =

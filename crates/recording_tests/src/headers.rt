@@ -1,6 +1,6 @@
 //! Headers and lengths.
 use contents::faults::error::ReadError;
-use contents::recording::Recording;
+use contents::recorded::Recording;
 use files::faults::read::ReadFault;
 use std::alloc::Global;
 use std::test::Fail;

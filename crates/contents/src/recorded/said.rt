@@ -6,7 +6,7 @@ ghost use Rattle.contents.specs.Recordings.{Copies, contents_of};
 ghost use Rattle.recording.specs.Rows.{operation_row};
 
 use crate::faults::error::ReadError;
-use crate::recording::Recording;
+use crate::recorded::Recording;
 use crate::writer::write;
 use recording::discipline::DisciplineKind;
 use recording::operation::Operation;

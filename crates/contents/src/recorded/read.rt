@@ -5,7 +5,7 @@ ghost use Rattle.contents.specs.Reading.{RowsAnswer};
 ghost use Rattle.contents.specs.Recordings.{Answers};
 
 use crate::faults::error::ReadError;
-use crate::recording::Recording;
+use crate::recorded::Recording;
 use files::header::Header;
 use files::reader::Reader;
 use recording::row::Row;

@@ -4,7 +4,7 @@ use Rattle.files.specs.Files.{count_in}
 use Rattle.files.specs.Files.Faulty.{in_record}
 use Rattle.files.proofs.LawfulFiles.{long}
 use Rattle.contents.proofs.ReadRows.{stops, goes_on, all_read}
-use Rattle.contents.proofs.recording.read.read_rows.Goals as goal
+use Rattle.contents.proofs.recorded.read.read_rows.Goals as goal
 
 pub returns-in_err-operation : goal.returns-in_err-operation
 returns-in_err-operation c =

@@ -3,7 +3,7 @@ use Rattle.recording.specs.Lawful.{lawful}
 use Rattle.files.specs.Files.{Contents, file_of}
 use Rattle.recording.specs.Rows.{row_at}
 use Rattle.contents.proofs.Held.{not_refused, written_whole}
-use Rattle.contents.proofs.recording.Recording.to_bytes.Goals as goal
+use Rattle.contents.proofs.recorded.Recording.to_bytes.Goals as goal
 
 pub unreachable-requires : goal.unreachable-requires
 unreachable-requires c =

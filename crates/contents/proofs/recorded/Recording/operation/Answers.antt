@@ -2,7 +2,7 @@ use Rattle.std.proofs.Common.{sym, ap, ◌∙◌, arith}
 use Rattle.recording.specs.Lawful.{fault_in}
 use Rattle.recording.specs.Rows.{row_at}
 use Rattle.contents.proofs.Held.{no_fault, row_read}
-use Rattle.contents.proofs.recording.Recording.operation.Goals as goal
+use Rattle.contents.proofs.recorded.Recording.operation.Goals as goal
 
 pub unreachable-requires : goal.unreachable-requires
 unreachable-requires c =
