@@ -1,12 +1,12 @@
 -- A file whose header is lawful begins with the header of what it says.
-use Rattle.std.proofs.Common.{◌≡◌, ℕ, ◌+◌, ◌*◌, ◌^◌, ◌<◌, ◌≤◌, Bool, true, false, ◌&&◌, List, [], ◌∷◌, ◌++◌, length, get_or, take, drop, None, sym, refl, ap, ◌∙◌, subst, arith, rules}
+use Rattle.std.proofs.Common.{◌≡◌, ℕ, ◌^◌, ◌<◌, ◌≤◌, List, [], ◌∷◌, ◌++◌, length, get_or, take, drop, None, sym, refl, ap, ◌∙◌, subst, arith}
 use Rattle.std.proofs.lemmas.List.{length-take-le, take-append-drop}
 use Rattle.recording.specs.declared.discipline.DisciplineKind.{DisciplineKind}
 use Rattle.recording.specs.declared.discipline.DisciplineKind.TheVariants.{FirstInFirstOut, AnyOrder, Timed}
 use Rattle.recording.specs.declared.row.Row.{Row}
 use Rattle.recording.specs.Bytes.{bytes_of, number_at}
 use Rattle.recording.specs.Disciplines.{discipline_number}
-use Rattle.files.specs.Files.{Contents, Lawful, header_of, records_of, file_of, file_fault, count_in}
+use Rattle.files.specs.Files.{Lawful, header_of, file_of, file_fault, count_in}
 use Rattle.contents.specs.Reading.{RowsRead}
 use Rattle.recording.proofs.FixedLength.{of_length}
 use Rattle.files.proofs.LawfulFiles.{long, few, version, letter_0, letter_1, letter_2}

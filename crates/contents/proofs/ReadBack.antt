@@ -1,14 +1,12 @@
 -- Reading what was written gives it back.
-use Rattle.std.proofs.Common.{◌≡◌, ℕ, zero, suc, ◌+◌, ◌*◌, ◌^◌, ◌<◌, ◌≤◌, true, false, cond, not, ◌||◌, eqb, ltb, List, [], ◌∷◌, ◌++◌, length, get_or, take, drop, is_some, Some, None, Ok, Err, Result, sym, refl, ap, ◌∙◌, subst, arith, length-append, ext_get_or, rules, le-ltb, eq-eqb}
+use Rattle.std.proofs.Common.{◌≡◌, ℕ, zero, suc, ◌+◌, ◌*◌, ◌<◌, true, false, cond, not, ◌||◌, List, [], ◌∷◌, ◌++◌, length, get_or, take, drop, is_some, Some, None, Ok, Err, sym, ap, ◌∙◌, subst, arith, length-append, ext_get_or, le-ltb, eq-eqb}
 use lib.Seq.{take-append_seam, drop-append-add}
 use borrow.Author.Tests.{clash}
 use Rattle.std.proofs.lemmas.List.{drop-drop}
 use Rattle.files.specs.declared.faults.file.FileFault.TheVariants.{NotARecording, Discipline, Length}
-use Rattle.recording.specs.declared.faults.record.RecordFault.{RecordFault}
-use Rattle.files.specs.declared.faults.read.ReadFault.{ReadFault}
 use Rattle.recording.specs.declared.row.Row.{Row}
-use Rattle.recording.specs.Bytes.{bytes_of, number_at}
-use Rattle.files.specs.Files.{Contents, Lawful, Reads, Faulty, FirstUnlawful, header_of, records_of, file_of, file_fault, count_in, record_at}
+use Rattle.recording.specs.Bytes.{number_at}
+use Rattle.files.specs.Files.{Contents, Lawful, header_of, records_of, file_of, file_fault, count_in, record_at}
 use Rattle.recording.specs.Rows.{row_at}
 use Rattle.files.specs.Files.Faulty.{in_header, in_record}
 use Rattle.recording.specs.Lawful.{lawful, fault_in}

@@ -1,6 +1,6 @@
 -- The records in a buffer, one record further.
-use Rattle.std.proofs.Common.{◌≡◌, ℕ, zero, suc, ◌+◌, ◌*◌, ◌<◌, ◌≤◌, List, [], ◌∷◌, ◌++◌, length, get_or, take, drop, sym, refl, ap, ◌∙◌, append_assoc, append-nil, arith, length-append}
-use lib.Seq.{drop-append-add, take-append_seam}
+use Rattle.std.proofs.Common.{◌≡◌, ℕ, ◌+◌, ◌*◌, ◌<◌, ◌≤◌, List, [], ◌∷◌, ◌++◌, length, take, drop, sym, refl, ap, ◌∙◌, append_assoc, arith, length-append}
+use lib.Seq.{drop-append-add}
 use Rattle.std.proofs.lemmas.List.{take_more, take_all, drop-drop, length-take-le, take_at}
 use Rattle.recording.specs.declared.row.Row.{Row}
 use Rattle.files.specs.Files.{Contents, header_of, records_of, file_of}

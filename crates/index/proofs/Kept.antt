@@ -1,6 +1,5 @@
 -- The sets after one more operation.
-use Rattle.std.proofs.Common.{◌≡◌, ℕ, ◌+◌, ◌<◌, ◌≤◌, Bool, true, false, not, ◌&&◌, ◌||◌, eqb, ltb, ◌⊎◌, List, [], ◌∷◌, ◌++◌, length, get_or, take, Option, sym, refl, ap, ◌∙◌, subst, inl, inr, ⊎_elim, arith, length-append, le-ltb, lt-ltb, eq-eqb, ne_eqb, eqb-true}
-use borrow.Author.Tests.{eqb-false}
+use Rattle.std.proofs.Common.{◌≡◌, ℕ, ◌+◌, ◌<◌, ◌≤◌, Bool, true, false, not, ◌&&◌, ◌||◌, eqb, ltb, List, [], ◌∷◌, ◌++◌, length, take, Option, sym, refl, ap, ◌∙◌, subst, ⊎_elim, arith, length-append, le-ltb, lt-ltb, eq-eqb, ne_eqb, eqb-true}
 use Rattle.std.proofs.lemmas.List.{get_or_append_left, get_or_push, take-append-le, take_all}
 use Rattle.std.proofs.lemmas.Bool.{cases_lt, cases_eq}
 use Rattle.recording.specs.declared.row.Row.{Row}
@@ -8,7 +7,6 @@ use Rattle.columns.specs.declared.column.Column.{Column}
 use Rattle.columns.specs.Positions.{has}
 use Rattle.columns.specs.Sweep.{column_at}
 use Rattle.happens_before.specs.Trace.{row}
-use Rattle.recording.specs.Rows.{blank}
 use Rattle.recording.specs.Codes.{threadexit, attach_q, end, release, enable}
 use Rattle.rules.specs.Acceptance.{does, is_on, forks, loops}
 use Rattle.rules.specs.Options.{is_of}

@@ -1,5 +1,5 @@
 -- Which held positions stand before a new operation, by the rules that look at two operations alone.
-use Rattle.std.specs.Prelude.{◌≡◌, ℕ, Bool, not, ◌&&◌, ◌||◌, List, ◌==◌}
+use Rattle.std.specs.Prelude.{Bool, not, ◌&&◌, ◌||◌, ◌==◌}
 use Rattle.recording.specs.Codes.{threadinit, threadexit, join, attach_q, post, acquire, release, enable}
 use Rattle.recording.specs.declared.row.Row.{Row}
 use Rattle.rules.specs.Acceptance.{does, is_on, forks}

@@ -1,11 +1,11 @@
 -- What the sets hold.
 use Rattle.std.specs.Prelude.{◌≡◌, ℕ, ◌<◌, Bool, not, ◌&&◌, ◌||◌, List, length, take, Option, ◌==◌, nat_lt}
-use Rattle.recording.specs.Codes.{threadexit, attach_q, loop_on_q, begin, end, release, enable}
+use Rattle.recording.specs.Codes.{threadexit, attach_q, begin, end, release, enable}
 use Rattle.recording.specs.declared.row.Row.{Row}
 use Rattle.columns.specs.declared.column.Column.{Column}
 use Rattle.columns.specs.Positions.{has}
 use Rattle.columns.specs.Sweep.{column_at}
-use Rattle.happens_before.specs.Trace.{row, thread}
+use Rattle.happens_before.specs.Trace.{row}
 use Rattle.rules.specs.Acceptance.{does, does_on, is_on, forks, loops, current}
 use Rattle.index.specs.declared.sets.Index.{Index}
 use Rattle.rules.specs.Options.{is_of}

@@ -20,7 +20,7 @@ use Rattle.rules.specs.Answers.{Classed, no_race, race}
 use Rattle.rules.specs.Columns.{pairs_in, Right}
 use Rattle.rules.specs.Numbers.{race_number, class_number}
 use Rattle.rules.specs.declared.race.RaceClass.{RaceClass}
-use Rattle.rules.specs.declared.race.RaceClass.TheVariants.{MultiThreaded, CoEnabled, Delayed as IsDelayed, CrossPosted, Unknown}
+use Rattle.rules.specs.declared.race.RaceClass.TheVariants.{MultiThreaded as IsMultiThreaded, CoEnabled as IsCoEnabled, Delayed as IsDelayed, CrossPosted as IsCrossPosted, Unknown}
 use Rattle.races.specs.declared.nearest.NearestPosts.{NearestPosts}
 use Rattle.races.specs.Chains.{nearest_at, Finds, NearestRight}
 use Rattle.races.specs.Classes.{conflicting, racing, differs, unordered, class_at}
@@ -138,7 +138,7 @@ module _ (D : Precedence) (held : List Row) (i j : ℕ) where
       → (d ≡ true) ↔ DelayApart held i j
       → (m ≡ false → (f ≡ true) ↔ CrossPosted held i j)
       → Class D held i j
-      (race_number (cond m MultiThreaded (cond e CoEnabled (cond d IsDelayed (cond f CrossPosted Unknown)))))
+      (race_number (cond m IsMultiThreaded (cond e IsCoEnabled (cond d IsDelayed (cond f IsCrossPosted Unknown)))))
   first_class true e d f p q r s = multi_threaded (p.0 refl)
   first_class false true d f p q r s = co_enabled (λ h. clash (p.1 h)) (q.0 refl)
   first_class false false true f p q r s = delayed (λ h. clash (p.1 h)) (λ h. clash (q.1 h)) (r.0 refl)

@@ -4,7 +4,7 @@ use borrow.Author.Tests.{clash}
 use Rattle.std.proofs.lemmas.Bool.{and_parts, or_parts, not-true, eqb-true, eq-eqb}
 use Rattle.recording.specs.Codes.{threadinit, threadexit, fork, attach_q, loop_on_q, begin, end}
 use Rattle.recording.specs.declared.row.Row.{Row}
-use Rattle.rules.specs.Acceptance.{some, does, does_on, forks, created, unknown, started, finished, known, queue, current, busy}
+use Rattle.rules.specs.Acceptance.{some, does, does_on, forks, created, unknown, started, finished, known, current, busy}
 use Rattle.rules.proofs.Pushes.{some_push, lasting_push}
 use Rattle.tables.specs.declared.threads.Stage.TheVariants.{Created, Running, Finished}
 use Rattle.tables.specs.declared.threads.ThreadRecord.{ThreadRecord}

@@ -1,8 +1,7 @@
 -- Tables that agree with what is held: each record says of its thread, lock or task what the definitions do.
-use Rattle.std.specs.Prelude.{◌≡◌, ℕ, ◌<◌, Bool, true, false, ◌&&◌, List, length, drop, is_some, None, Option, ◌==◌, nat_lt}
+use Rattle.std.specs.Prelude.{◌≡◌, ℕ, ◌<◌, Bool, true, ◌&&◌, List, length, drop, is_some, Option, ◌==◌, nat_lt}
 use Rattle.recording.specs.Codes.{post}
 use Rattle.recording.specs.Faults.{first}
-use Rattle.recording.specs.Lawful.{lawful}
 use Rattle.recording.specs.declared.row.Row.{Row}
 use Rattle.happens_before.specs.Trace.{row}
 use Rattle.rules.specs.declared.faults.StateFault.{StateFault}

@@ -1,7 +1,7 @@
 use Rattle.std.proofs.Common.{◌≡◌, ℕ, Bool, cond, List, ◌++◌, length, string_bytes, codes, decimal, sym, ap, ◌∙◌}
 use Rattle.recording.proofs.Added.{also, same_text}
 use Rattle.listing.proofs.lines.push_lines.Goals as goal
-use Rattle.listing.proofs.lines.push_lines.Goals.{then_same, else_same}
+use Rattle.listing.proofs.lines.push_lines.Goals.{then-same, else-same}
 
 abbrev named : Bool → List ℕ
 named same = cond same (codes "same") (codes "other")
@@ -13,8 +13,8 @@ returns c =
     let text₂ = string_bytes c.push_operations.new.text in
     let bytes : c.if-same.bytes.now ≡ named c.args.same =
     elim c.if-same.branch [
-      | then_same w ↦ ap (λ r. r.now) w.bytes-is ∙ ap named (sym w.if-same.true)
-      | else_same w ↦ ap (λ r. r.now) w.bytes-is ∙ ap named (sym w.if-same.false)
+      | then-same w ↦ ap (λ r. r.now) w.bytes-is ∙ ap named (sym w.if-same.true)
+      | else-same w ↦ ap (λ r. r.now) w.bytes-is ∙ ap named (sym w.if-same.false)
     ]
     in
     also text₀ _ _ c.in_ok-push_head.ensures

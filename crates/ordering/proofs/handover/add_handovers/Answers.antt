@@ -23,10 +23,10 @@ loop-i-preserved g c =
     elim c.if-is_handed.branch [
       | then-is_handed w ↦
           let l : i < 512 = omega (arith, c.loop-i-test.true) in
-          subst (λ (x : Column). SoFar first each (has x) (i + 1)) (sym w.column_is)
+          subst (λ (x : Column). SoFar first each (has x) (i + 1)) (sym w.column-is)
           (gather_yes first each (has c.loop-i.column) i _ so_far w.insert-then-is_handed.ensures l (is.0 w.if-is_handed.true))
       | else-is_handed w ↦
-          subst (λ (x : Column). SoFar first each (has x) (i + 1)) (sym w.column_is)
+          subst (λ (x : Column). SoFar first each (has x) (i + 1)) (sym w.column-is)
           (gather_no first each (has c.loop-i.column) i so_far (λ h. both_ways _ w.if-is_handed.false (is.1 h)))
     ]
 

@@ -1,4 +1,4 @@
-use Rattle.std.proofs.Common.{◌≡◌, length, ap, ◌∙◌, subst, arith}
+use Rattle.std.proofs.Common.{ap, ◌∙◌, subst, arith}
 use Rattle.recording.specs.Rows.{row_of}
 use Rattle.index.specs.Indexed.{NotedKinds, NotedRest}
 use Rattle.index.proofs.Kept.{indexed_push}

@@ -1,7 +1,7 @@
 use Rattle.std.proofs.Common.{◌≡◌, ◌<◌, set, ap, ◌∙◌, subst}
 use Rattle.recording.specs.Rows.{row_of}
 use Rattle.tables.specs.Records.{thread_at}
-use Rattle.tables.specs.Steps.{changed, stepped, relocked, retasked, TakenIn}
+use Rattle.tables.specs.Steps.{changed, stepped, relocked, retasked}
 use Rattle.tables.proofs.Agreement.{one_more}
 use Rattle.tables.proofs.tables.Tables.accept.Goals as goal
 
