@@ -1,25 +1,13 @@
 -- What the rules give of a new operation, as tests of the operations held.
-use Rattle.std.proofs.Common.{◌≡◌, ℕ, ◌+◌, ◌<◌, ◌≤◌, Bool, true, false, not, ◌&&◌, ◌||◌, eqb, ltb, ◌⊎◌, ◌↔◌, List, [], ◌∷◌, ◌++◌, length, take, Option, sym, refl, ap, ◌∙◌, subst, inl, inr, ⊎_elim, arith, length-append, ltb-true, lt-ltb, eq-eqb, ne_eqb, eqb-true}
+use Rattle.std.proofs.Common.{◌≡◌, ℕ, ◌<◌, true, not, ◌&&◌, eqb, List, [], ◌∷◌, ◌++◌, length, take, sym, refl, ap, ◌∙◌, subst, inl, inr, ⊎_elim, arith, length-append, eq-eqb, ne_eqb, eqb-true}
 use borrow.Author.Tests.{eqb-false, not-true, both_ways}
-use Rattle.std.proofs.lemmas.Bool.{cases_Bool, cases_eq, and_parts, and_from, or_cases, or_left, or_right, not_from_false}
+use Rattle.std.proofs.lemmas.Bool.{cases_Bool, and_parts, and_from, or_cases, or_left, or_right, not_from_false}
 use Rattle.std.proofs.lemmas.List.{take_at}
 use Rattle.recording.specs.Codes.{threadinit, threadexit, fork, join, attach_q, loop_on_q, post, begin, end, acquire, release, enable}
 use Rattle.recording.specs.declared.row.Row.{Row}
-use Rattle.happens_before.specs.Trace.{row, code, thread, item, target, marks, Belongs, Posts}
-use Rattle.happens_before.specs.Order.{
-  Precedence,
-  Pairs,
-  ProgramOrder,
-  TaskOrder,
-  AttachOrder,
-  EnableOrder,
-  PostOrder,
-  ForkOrder,
-  JoinOrder,
-  LockOrder,
-  Handover,
-}
-use Rattle.happens_before.proofs.Rules.{Base, EarlyQueueOrder, EarlyRunToCompletion}
+use Rattle.happens_before.specs.Trace.{row, code, thread, item, marks, Belongs, Posts}
+use Rattle.happens_before.specs.Order.{Precedence, Pairs, ProgramOrder, TaskOrder, AttachOrder, EnableOrder, ForkOrder, JoinOrder, LockOrder, Handover}
+use Rattle.happens_before.proofs.Rules.{Base}
 use Rattle.happens_before.proofs.Rules.Base.{
   program_order,
   task_order,
@@ -33,16 +21,15 @@ use Rattle.happens_before.proofs.Rules.Base.{
   run_to_completion,
 }
 use Rattle.rules.specs.Acceptance.{does, is_on, forks, loops}
-use Rattle.rules.specs.Options.{is_of}
 use Rattle.rules.proofs.Places.{some_before, found_before}
 use Rattle.index.specs.Given.{kindly}
 use Rattle.index.specs.Indexed.{member_at, unlooped_at}
 use Rattle.index.proofs.Kept.{row_earlier, row_newest, take_earlier}
 use Rattle.happens_before.proofs.Posted.{post_held}
 use Rattle.recording.specs.Posts.{marks_in}
-use Rattle.ordering.specs.Directly.{Hands, Directly}
+use Rattle.ordering.specs.Directly.{Directly}
 use Rattle.ordering.specs.Directly.Directly.{by_program, by_task, by_kind, by_post, by_handover}
-use Rattle.ordering.proofs.Members.{same_tests, member_sound, member_full}
+use Rattle.ordering.proofs.Members.{member_sound, member_full}
 
 module _ (held : List Row) (o : Row) where
   abbrev pub trace : List Row

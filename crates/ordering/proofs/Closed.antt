@@ -1,14 +1,13 @@
 -- The descending pass over a column of what stands directly before gives what is before.
-use Rattle.std.proofs.Common.{◌≡◌, ℕ, zero, suc, ◌+◌, ◌<◌, ◌≤◌, Bool, true, false, not, ◌&&◌, ◌||◌, eqb, ltb, ◌↔◌, List, [], ◌∷◌, ◌++◌, length, take, sym, refl, ap, ◌∙◌, subst, arith, length-append, lt-ltb, eqb-true}
+use Rattle.std.proofs.Common.{◌≡◌, ℕ, zero, suc, ◌<◌, ◌≤◌, Bool, true, false, not, ◌&&◌, ◌||◌, eqb, ◌↔◌, List, [], ◌∷◌, ◌++◌, length, take, sym, refl, ap, ◌∙◌, subst, arith, length-append}
 use Rattle.std.proofs.lemmas.List.{take_at}
-use Rattle.std.proofs.lemmas.Bool.{and_parts}
-use Rattle.recording.specs.Codes.{has_task, begin}
+use Rattle.recording.specs.Codes.{has_task}
 use Rattle.recording.specs.declared.row.Row.{Row}
 use Rattle.columns.specs.declared.column.Column.{Column}
 use Rattle.columns.specs.Positions.{has}
 use Rattle.columns.specs.Sweep.{column_at, joined, swept}
-use Rattle.happens_before.specs.Trace.{row, code, thread, Belongs}
-use Rattle.happens_before.specs.Order.{Precedence, Pairs, Before}
+use Rattle.happens_before.specs.Trace.{row, thread}
+use Rattle.happens_before.specs.Order.{Precedence, Before}
 use Rattle.happens_before.specs.Theorems.{PostedFirst, AllInRange}
 use Rattle.happens_before.proofs.Alike.{alike_refl, base_alike}
 use Rattle.happens_before.proofs.Columns.{hb, hb_rising}

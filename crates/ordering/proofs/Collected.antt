@@ -1,5 +1,5 @@
 -- A column to which the rules add in turn.
-use Rattle.std.proofs.Common.{◌≡◌, ℕ, ◌<◌, Bool, true, false, ◌&&◌, ◌||◌, ltb, ◌⊎◌, ◌↔◌, List, length, take, sym, refl, ap, ◌∙◌, subst, inl, inr, ⊎_elim, arith, ltb-true, lt-ltb}
+use Rattle.std.proofs.Common.{◌≡◌, ℕ, ◌<◌, Bool, true, ◌&&◌, ◌||◌, ltb, ◌⊎◌, ◌↔◌, List, length, take, sym, refl, ◌∙◌, subst, inl, inr, ⊎_elim, arith, ltb-true, lt-ltb}
 use Rattle.std.proofs.lemmas.Bool.{and_parts, and_from, or_cases, or_left, or_right}
 use Rattle.recording.specs.Codes.{begin}
 use Rattle.recording.specs.declared.action.Action.{Action}

@@ -1,15 +1,14 @@
 -- The operations of a task, and those before a thread loops.
-use Rattle.std.proofs.Common.{◌≡◌, ℕ, suc, ◌<◌, ◌≤◌, Bool, true, false, not, ◌&&◌, ◌||◌, eqb, ltb, ◌⊎◌, ◌↔◌, List, [], ◌∷◌, ◌++◌, length, take, sym, refl, ap, ◌∙◌, inl, inr, ⊎_elim, arith, eq-eqb, eqb-true}
+use Rattle.std.proofs.Common.{◌≡◌, ℕ, ◌<◌, ◌≤◌, Bool, true, false, ◌&&◌, eqb, ◌⊎◌, List, length, take, sym, refl, ap, ◌∙◌, inl, inr, ⊎_elim, arith, eq-eqb, eqb-true}
 use borrow.Author.Tests.{both_ways}
 use Rattle.std.proofs.lemmas.Bool.{cases_Bool, cases_eq, and_parts, and_from, or_cases, or_left, or_right}
 use Rattle.std.proofs.lemmas.List.{length-take-le}
-use Rattle.recording.specs.Codes.{loop_on_q, begin, end}
+use Rattle.recording.specs.Codes.{begin, end}
 use Rattle.recording.specs.declared.row.Row.{Row}
-use Rattle.happens_before.specs.Trace.{row, code, thread, item, Does, Belongs}
-use Rattle.happens_before.specs.Order.{ProgramOrder}
-use Rattle.rules.specs.Acceptance.{some, does, does_on, loops, current}
-use Rattle.rules.proofs.Places.{some_before, found_before, lasting_before, lasting_found, row_before, length_before}
-use Rattle.index.specs.Indexed.{member_at, unlooped_at}
+use Rattle.happens_before.specs.Trace.{row, code, thread, Belongs}
+use Rattle.rules.specs.Acceptance.{does_on, current}
+use Rattle.rules.proofs.Places.{lasting_before, lasting_found, row_before, length_before}
+use Rattle.index.specs.Indexed.{member_at}
 
 -- two tests that imply each other are equal
 pub same_tests : (x y : Bool) → (x ≡ true → y ≡ true) → (y ≡ true → x ≡ true) → x ≡ y

@@ -1,10 +1,10 @@
 -- The post of a task, by its record.
-use Rattle.std.proofs.Common.{◌≡◌, ℕ, ◌<◌, Bool, true, false, ◌&&◌, ◌||◌, eqb, ltb, List, length, Some, None, Option, sym, refl, ap, ◌∙◌, subst, ⊎_elim, ltb-true, lt-ltb, eq-eqb, eqb-true}
+use Rattle.std.proofs.Common.{◌≡◌, ℕ, ◌<◌, true, false, ◌&&◌, ◌||◌, eqb, ltb, List, length, Some, None, Option, sym, refl, ap, ◌∙◌, ⊎_elim, ltb-true, lt-ltb, eq-eqb, eqb-true}
 use borrow.Author.Tests.{both_ways, clash}
 use Rattle.std.proofs.lemmas.Bool.{and_parts, and_from, cases_Bool}
 use Rattle.recording.specs.Codes.{post, begin}
 use Rattle.recording.specs.declared.row.Row.{Row}
-use Rattle.happens_before.specs.Trace.{row, code, item, Posts}
+use Rattle.happens_before.specs.Trace.{row, code, Posts}
 use Rattle.happens_before.proofs.Posted.{post_held}
 use Rattle.rules.specs.Acceptance.{is_on, does_on, current, busy}
 use Rattle.rules.specs.Options.{is_of}

@@ -1,4 +1,4 @@
-use Rattle.std.proofs.Common.{◌≡◌, ◌<◌, true, ltb, length, take, sym, refl, ap, ◌∙◌, inl, inr, ⊎_elim, ltb-true, lt-ltb, eq-eqb, eqb-true}
+use Rattle.std.proofs.Common.{◌≡◌, true, ltb, length, take, sym, refl, ap, ◌∙◌, inl, inr, ⊎_elim, ltb-true, lt-ltb, eq-eqb, eqb-true}
 use Rattle.std.proofs.lemmas.Bool.{and_parts, and_from, or_cases, or_left, or_right}
 use Rattle.columns.specs.Positions.{has}
 use Rattle.happens_before.specs.Trace.{row}

@@ -1,4 +1,4 @@
-use Rattle.std.proofs.Common.{◌≡◌, ℕ, ◌<◌, Bool, true, ◌&&◌, eqb, ltb, length, sym, ap, ◌∙◌, lt-ltb}
+use Rattle.std.proofs.Common.{◌≡◌, ℕ, ◌<◌, Bool, ◌&&◌, eqb, length, sym, ap, ◌∙◌, lt-ltb}
 use Rattle.columns.specs.Positions.{has}
 use Rattle.columns.specs.Sweep.{swept}
 use Rattle.happens_before.specs.Trace.{row}

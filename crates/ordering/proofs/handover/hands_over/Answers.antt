@@ -1,4 +1,4 @@
-use Rattle.std.proofs.Common.{◌≡◌, inl, inr, ⊎_elim}
+use Rattle.std.proofs.Common.{inl, inr, ⊎_elim}
 use borrow.Author.Tests.{both_ways}
 use Rattle.ordering.proofs.handover.hands_over.Goals as goal
 

@@ -1,4 +1,4 @@
-use Rattle.std.proofs.Common.{◌≡◌, ◌<◌, true, eqb, ltb, sym, ap, ◌∙◌, eqb-true}
+use Rattle.std.proofs.Common.{◌<◌, eqb, ltb, sym, ap, ◌∙◌, eqb-true}
 use Rattle.std.proofs.lemmas.Bool.{and_parts}
 use Rattle.recording.specs.Codes.{end, has_task}
 use Rattle.happens_before.specs.Trace.{code, item}
