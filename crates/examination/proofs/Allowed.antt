@@ -1,5 +1,5 @@
 -- What the tables do not refuse.
-use Rattle.std.proofs.Common.{◌≡◌, ℕ, Bool, true, false, cond, not, ◌&&◌, ◌||◌, eqb, List, Some, None, sym, refl, ap, ◌∙◌}
+use Rattle.std.proofs.Common.{◌≡◌, ℕ, Bool, true, false, cond, not, ◌&&◌, ◌||◌, eqb, List, Some, None, refl, ap, ◌∙◌}
 use Rattle.recording.specs.Codes.{post, begin, end}
 use Rattle.recording.specs.declared.row.Row.{Row}
 use Rattle.rules.specs.declared.faults.StateFault.TheVariants.{
@@ -10,7 +10,7 @@ use Rattle.rules.specs.declared.faults.StateFault.TheVariants.{
   OutOfTurn,
   NotAdmitted,
 }
-use Rattle.rules.specs.Acceptance.{busy, waits, current, posted, overtakes}
+use Rattle.rules.specs.Acceptance.{busy, waits, current, posted}
 use Rattle.rules.specs.Fair.{refused_by_tables}
 use Rattle.rules.proofs.Fair.{allowed}
 use Rattle.tables.specs.Matches.{table_refusal}

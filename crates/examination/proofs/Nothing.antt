@@ -1,5 +1,5 @@
 -- An examination that holds nothing.
-use Rattle.std.proofs.Common.{◌≡◌, ℕ, List, [], length, sym, refl, subst, arith}
+use Rattle.std.proofs.Common.{◌≡◌, ℕ, List, [], sym, refl, subst, arith}
 use Rattle.recording.specs.declared.row.Row.{Row}
 use Rattle.columns.specs.declared.column.Column.{Column}
 use Rattle.races.specs.declared.nearest.NearestPosts.{NearestPosts}

@@ -1,6 +1,5 @@
 -- What is stored, one operation further.
 use Rattle.std.proofs.Common.{◌≡◌, ℕ, zero, suc, ◌+◌, ◌-◌, ◌<◌, ◌≤◌, Bool, true, false, cond, ◌↔◌, List, [], ◌∷◌, ◌++◌, length, sym, refl, ap, ◌∙◌, subst, ⊎_elim, add-zero, arith, length-append}
-use borrow.Author.Tests.{both_ways}
 use Rattle.std.proofs.lemmas.List.{get_or_append_left, get_or_push}
 use Rattle.std.proofs.lemmas.Bool.{cases_lt, cases_Bool}
 use Rattle.recording.specs.Lawful.{lawful}
@@ -8,17 +7,17 @@ use Rattle.recording.specs.declared.row.Row.{Row}
 use Rattle.columns.specs.declared.column.Column.{Column}
 use Rattle.columns.specs.Positions.{has, tally}
 use Rattle.columns.specs.Sweep.{column_at}
-use Rattle.columns.proofs.Counts.{tally_same, tally_split}
+use Rattle.columns.proofs.Counts.{tally_split}
 use Rattle.happens_before.specs.Order.{Precedence, Before}
 use Rattle.happens_before.specs.Theorems.{PostedFirst}
 use Rattle.happens_before.proofs.Extended.{extended_before}
 use Rattle.races.specs.declared.nearest.NearestPosts.{NearestPosts}
 use Rattle.recording.specs.Masks.{bit}
 use Rattle.rules.specs.Answers.{Count}
-use Rattle.rules.specs.Columns.{pairs_in, Right}
-use Rattle.rules.specs.Fair.{FairTables, refused_by_tables}
+use Rattle.rules.specs.Columns.{Right}
+use Rattle.rules.specs.Fair.{refused_by_tables}
 use Rattle.rules.proofs.Determined.{before_rises}
-use Rattle.rules.proofs.Fair.{tables_push, posted_first}
+use Rattle.rules.proofs.Fair.{tables_push}
 use Rattle.examination.specs.declared.state.State.{State}
 use Rattle.examination.specs.Follows.{Follows}
 use Rattle.examination.specs.Sound.{Sound}

@@ -1,12 +1,12 @@
 -- The post of the task that a new operation belongs to.
-use Rattle.std.proofs.Common.{◌≡◌, ℕ, ◌<◌, ◌≤◌, Bool, true, false, cond, eqb, ltb, ◌↔◌, List, [], ◌∷◌, ◌++◌, length, take, Some, None, Option, sym, refl, ap, ◌∙◌, subst, arith, length-append, lt-ltb, eq-eqb, eqb-true}
+use Rattle.std.proofs.Common.{◌≡◌, ℕ, ◌<◌, Bool, true, false, cond, eqb, ltb, ◌↔◌, List, [], ◌∷◌, ◌++◌, length, take, Some, None, Option, sym, refl, ap, ◌∙◌, subst, arith, length-append, lt-ltb, eq-eqb, eqb-true}
 use borrow.Author.Tests.{clash}
 use Rattle.std.proofs.lemmas.List.{take_at}
 use Rattle.std.proofs.lemmas.Bool.{cond-true}
-use Rattle.recording.specs.Codes.{begin, has_task}
+use Rattle.recording.specs.Codes.{has_task}
 use Rattle.recording.specs.declared.row.Row.{Row}
 use Rattle.happens_before.specs.Race.{TaskPost}
-use Rattle.happens_before.specs.Trace.{row, item, Belongs, Posts}
+use Rattle.happens_before.specs.Trace.{row, Belongs, Posts}
 use Rattle.rules.specs.Fair.{FairTables}
 use Rattle.rules.specs.Options.{is_of}
 use Rattle.rules.proofs.Fair.{begin_posted, one_post, all_in_range}

@@ -1,8 +1,7 @@
 -- What an examination holds, and that what it stores is exact.
-use Rattle.std.specs.Prelude.{◌≡◌, ℕ, Bool, List, vec_items}
+use Rattle.std.specs.Prelude.{◌≡◌, Bool, List, vec_items}
 use Rattle.recording.specs.declared.marks.Marks.{Marks}
 use Rattle.recording.specs.declared.row.Row.{Row}
-use Rattle.happens_before.specs.Order.{Precedence}
 use Rattle.rules.specs.Acceptance.{Setting, opened}
 use Rattle.rules.specs.Columns.{Right}
 use Rattle.races.specs.Chains.{NearestRight}

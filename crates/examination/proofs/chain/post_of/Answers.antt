@@ -1,4 +1,4 @@
-use Rattle.std.proofs.Common.{sym, ◌∙◌}
+use Rattle.std.proofs.Common.{sym}
 use Rattle.examination.proofs.TaskPosts.{found, not_found, no_task}
 use Rattle.examination.proofs.chain.post_of.Goals as goal
 

@@ -1,4 +1,4 @@
-use Rattle.std.proofs.Common.{◌≡◌, ℕ, ◌<◌, Bool, true, false, ◌&&◌, ltb, None, sym, ap, ◌∙◌, subst, arith, below_more, lt-ltb}
+use Rattle.std.proofs.Common.{◌≡◌, ℕ, Bool, false, ◌&&◌, ltb, None, sym, ◌∙◌, subst, arith, below_more, lt-ltb}
 use Rattle.std.proofs.lemmas.Bool.{cond-true}
 use Rattle.happens_before.specs.Trace.{row, item, marks, Posts}
 use Rattle.rules.specs.Acceptance.{posts_to, waits, some_below}

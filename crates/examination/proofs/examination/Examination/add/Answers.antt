@@ -1,4 +1,4 @@
-use Rattle.std.proofs.Common.{◌≡◌, List, length, sym, subst}
+use Rattle.std.proofs.Common.{List, length, sym, subst}
 use Rattle.recording.specs.declared.row.Row.{Row}
 use Rattle.happens_before.specs.Order.{Before}
 use Rattle.rules.specs.Answers.{Count}

@@ -1,7 +1,6 @@
-use Rattle.std.proofs.Common.{◌≡◌, vec_items, sym, subst₂, arith}
+use Rattle.std.proofs.Common.{vec_items, arith}
 use Rattle.recording.specs.Masks.{bit}
 use Rattle.rules.proofs.Fair.{posted_first}
-use Rattle.races.specs.Classes.{WhereRight}
 use Rattle.rules.specs.Answers.{Classed}
 use Rattle.rules.specs.Numbers.{class_number}
 use Rattle.examination.proofs.Stored.{where_stored}

@@ -1,4 +1,4 @@
-use Rattle.std.proofs.Common.{◌≡◌, ◌≤◌, length, vec_items, sym, refl, subst, subst₂, arith}
+use Rattle.std.proofs.Common.{◌≤◌, length, vec_items, sym, refl, subst, subst₂, arith}
 use mathlib.Core.Logic.{∥∥₁_map}
 use Rattle.recording.specs.Masks.{bit}
 use Rattle.rules.specs.Fair.{FairTables}
@@ -11,25 +11,20 @@ use Rattle.examination.proofs.examination.Examination.cut.Goals as goal
 
 pub invariant_of-self : goal.invariant_of-self
 invariant_of-self g c =
-    let e = c.args.self.now in (
-      omega (arith, c.truncate.ensures.capacity, e.row_room),
-      (
-        omega (arith, c.truncate-2.ensures.capacity, e.column_room),
-        (
-          omega (arith, c.truncate-3.ensures.capacity, e.nearest_room),
-          (
-            ∥∥₁_map e.sound
-                (λ k.
-                sound_cut e.mask c.args.n (vec_items e.rows) (vec_items c.truncate.new.self) (vec_items e.columns)
-                (vec_items c.truncate-2.new.self) (vec_items e.nearests) (vec_items c.truncate-3.new.self) e.state
-                c.rebuild-self.result k c.truncate.ensures.items c.truncate-2.ensures.items c.truncate-3.ensures.items
-                (subst (λ x. FairTables (bit e.mask) x → length x ≤ 512 → Follows (bit e.mask) x c.rebuild-self.result)
-                c.deref.ensures.value c.rebuild-self.ensures)),
-            tt,
-          ),
-        ),
-      ),
-    )
+    let e = c.args.self.now in
+    record {
+      row_room = omega (arith, c.truncate.ensures.capacity, e.row_room);
+      column_room = omega (arith, c.truncate-2.ensures.capacity, e.column_room);
+      nearest_room = omega (arith, c.truncate-3.ensures.capacity, e.nearest_room);
+      sound =
+          ∥∥₁_map e.sound
+          (λ k.
+          sound_cut e.mask c.args.n (vec_items e.rows) (vec_items c.truncate.new.self) (vec_items e.columns)
+          (vec_items c.truncate-2.new.self) (vec_items e.nearests) (vec_items c.truncate-3.new.self) e.state
+          c.rebuild-self.result k c.truncate.ensures.items c.truncate-2.ensures.items c.truncate-3.ensures.items
+          (subst (λ x. FairTables (bit e.mask) x → length x ≤ 512 → Follows (bit e.mask) x c.rebuild-self.result)
+          c.deref.ensures.value c.rebuild-self.ensures));
+    }
 
 pub returns : goal.returns
 returns g c =

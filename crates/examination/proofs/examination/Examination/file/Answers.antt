@@ -1,4 +1,4 @@
-use Rattle.std.proofs.Common.{◌≡◌, ℕ, ◌+◌, ◌<◌, ◌≤◌, Bool, true, false, ◌↔◌, List, [], ◌∷◌, ◌++◌, length, None, vec_items, vec_len, vec_capacity, sym, refl, ap, ◌∙◌, subst, subst₂, arith}
+use Rattle.std.proofs.Common.{◌≡◌, ℕ, ◌≤◌, true, false, ◌↔◌, List, [], ◌∷◌, ◌++◌, length, None, vec_items, sym, refl, ap, ◌∙◌, subst, subst₂, arith}
 use mathlib.Core.Logic.{∥∥₁_elim, ∥∥₁_map}
 use native.Mathlib.Bridge.{le_prop}
 use Rattle.recording.specs.declared.row.Row.{Row}
@@ -61,27 +61,22 @@ invariant_of-self g c =
     let o = c.args.operation.row in
     let s = setting_of g.D.Discipline.admission g.D.Discipline.precedence e in
     let a = accepted s held o c.requires in
-    let ok = fine s held o c.requires in (
-      omega (arith, c.push_reserved.ensures.capacity, e.row_room),
-      (
-        omega (arith, c.push_reserved-2.ensures.capacity, e.column_room),
-        (
-          omega (arith, c.push_reserved-3.ensures.capacity, e.nearest_room),
-          (
-            ∥∥₁_map e.sound
-                (λ k.
-                grown e.mask held _ (vec_items e.columns) _ (vec_items e.nearests) _ o _ _ _ c.row.ensures c.push_reserved.ensures.items
-                c.push_reserved-2.ensures.items c.push_reserved-3.ensures.items
-                (λ x y z. Sound e.mask x y z c.accept.new.self)
-                (sound_push e.mask held (vec_items e.columns) (vec_items e.nearests) e.state c.accept.new.self o _ _ k a.room
-                c.args.operation.lawful ok
-                (c.accept.ensures (bit e.mask) held k.follows ok (c.len-position.ensures ∙ e.rows.ok.0)
-                (omega (arith, a.room, c.len-position.ensures, e.rows.ok.0))))),
-            tt,
-          ),
-        ),
-      ),
-    )
+    let ok = fine s held o c.requires in
+    record {
+      row_room = omega (arith, c.push_reserved.ensures.capacity, e.row_room);
+      column_room = omega (arith, c.push_reserved-2.ensures.capacity, e.column_room);
+      nearest_room = omega (arith, c.push_reserved-3.ensures.capacity, e.nearest_room);
+      sound =
+          ∥∥₁_map e.sound
+          (λ k.
+          grown e.mask held _ (vec_items e.columns) _ (vec_items e.nearests) _ o _ _ _ c.row.ensures c.push_reserved.ensures.items
+          c.push_reserved-2.ensures.items c.push_reserved-3.ensures.items
+          (λ x y z. Sound e.mask x y z c.accept.new.self)
+          (sound_push e.mask held (vec_items e.columns) (vec_items e.nearests) e.state c.accept.new.self o _ _ k a.room
+          c.args.operation.lawful ok
+          (c.accept.ensures (bit e.mask) held k.follows ok (c.len-position.ensures ∙ e.rows.ok.0)
+          (omega (arith, a.room, c.len-position.ensures, e.rows.ok.0)))));
+    }
 
 pub returns : goal.returns
 returns g c =

@@ -1,4 +1,4 @@
-use Rattle.std.proofs.Common.{◌≡◌, ◌<◌, ◌≤◌, length, vec_items, sym, refl, ap, ◌∙◌, subst, arith}
+use Rattle.std.proofs.Common.{◌≡◌, ◌<◌, length, vec_items, sym, refl, ap, ◌∙◌, subst, arith}
 use Rattle.happens_before.specs.Theorems.{AllInRange}
 use Rattle.recording.specs.Masks.{bit}
 use Rattle.rules.proofs.Fair.{all_in_range}

@@ -1,4 +1,4 @@
-use Rattle.std.proofs.Common.{◌≡◌, ◌≤◌, List, length, vec_items}
+use Rattle.std.proofs.Common.{◌≤◌, List, length, vec_items}
 use Rattle.recording.specs.Masks.{bit}
 use Rattle.rules.specs.Answers.{RaceList}
 use Rattle.rules.specs.declared.race.RaceRow.{RaceRow}

@@ -6,13 +6,13 @@ pub invariant_of-result : goal.invariant_of-result
 invariant_of-result g c =
     let rows = c.in_ok-rows.ensures in
     let columns = c.in_ok-columns.ensures in
-    let nearests = c.in_ok-nearests.ensures in (
-      rows.capacity,
-      (
-        columns.capacity,
-        (nearests.capacity, (∣ nothing_sound c.args.mask _ _ _ c.new.result rows.items columns.items nearests.items c.new.ensures ∣₁, tt)),
-      ),
-    )
+    let nearests = c.in_ok-nearests.ensures in
+    record {
+      row_room = rows.capacity;
+      column_room = columns.capacity;
+      nearest_room = nearests.capacity;
+      sound = ∣ nothing_sound c.args.mask _ _ _ c.new.result rows.items columns.items nearests.items c.new.ensures ∣₁;
+    }
 
 pub returns : goal.returns
 returns g c =

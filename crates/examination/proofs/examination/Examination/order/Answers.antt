@@ -1,4 +1,4 @@
-use Rattle.std.proofs.Common.{◌≡◌, true, false, sym, ◌∙◌, true≢false, arith}
+use Rattle.std.proofs.Common.{sym, ◌∙◌, true≢false, arith}
 use Rattle.rules.specs.Answers.{same, before, after, unordered}
 use Rattle.examination.proofs.examination.Examination.order.Goals as goal
 

@@ -1,6 +1,5 @@
-use Rattle.std.proofs.Common.{◌≡◌, sym, refl, ap, ◌∙◌}
+use Rattle.std.proofs.Common.{ap, ◌∙◌}
 use Rattle.recording.proofs.LawfulRows.{thread_fits}
-use Rattle.rules.specs.Acceptance.{loops}
 use Rattle.rules.proofs.Fair.{allowed, begin_turn}
 use Rattle.tables.specs.Records.{thread_at}
 use Rattle.examination.proofs.Allowed.{allowed_none}

@@ -1,4 +1,4 @@
-use Rattle.std.proofs.Common.{◌≡◌, ◌<◌, ◌≤◌, length, take, is_some, sym, ap, ◌∙◌, subst, arith}
+use Rattle.std.proofs.Common.{◌<◌, ◌≤◌, length, take, is_some, sym, ap, ◌∙◌, subst, arith}
 use borrow.Author.Tests.{clash}
 use Rattle.std.proofs.lemmas.List.{take_all, take_more, length-take-le}
 use Rattle.recording.specs.declared.faults.record.RecordFault.{RecordFault}
