@@ -28,7 +28,7 @@ fn list_in<D: Discipline + Drop>(
     examination: &Examination<D>,
     places: usize,
 ) -> Result<Result<Vec<RaceRow>, TooShort>, AllocError>
-    ensures* pass { λ r. ⌜ IfOk r (λ list. IfOk list (λ races. ((r : RaceRow) → In r races.items → Passes r))) ⌝ }
+    ensures pass { IfOk result (λ list. IfOk list (λ races. ((r : RaceRow) → In r races.items → Passes r))) }
     ensures listed { Exact D.Discipline.precedence examination.now → IfOk result (Lists (D.Discipline.precedence examination.now.discipline) (held examination.now) places) }
 {
     let mut races = vec![in heap; UNWRITTEN; places]?;
@@ -46,7 +46,7 @@ pub(crate) fn races_of<D: Discipline + Drop>(
     heap: Global,
     examination: &Examination<D>,
 ) -> Result<Vec<RaceRow>, AllocError>
-    ensures* pass { λ r. ⌜ IfOk r (λ races. ((r : RaceRow) → In r races.items → Passes r)) ⌝ }
+    ensures pass { IfOk result (λ races. ((r : RaceRow) → In r races.items → Passes r)) }
     ensures listed { Exact D.Discipline.precedence examination.now → IfOk result (λ races. RaceList (D.Discipline.precedence examination.now.discipline) (held examination.now) races.items) }
 {
     match list_in(heap, examination, FEW)? {

@@ -1,6 +1,5 @@
-use Rattle.std.proofs.Common.{◌≡◌, ℕ, List, [], ◌++◌, sym, refl, ap, ◌∙◌, subst, append-nil, arith}
+use Rattle.std.proofs.Common.{◌≡◌, ◌++◌, sym, refl, ap, ◌∙◌, subst, append-nil, arith}
 use Rattle.std.proofs.lemmas.Result.{err_from_is_err_and}
-use Rattle.recording.specs.declared.row.Row.{Row}
 use Rattle.examination.specs.Exact.{held, setting_of}
 use Rattle.feeding.specs.Feeding.{Taken, rows_of}
 use Rattle.feeding.proofs.Records.{same_setting, no_rows, row_is, inside, at_end, held_next, taken_next, stopped}

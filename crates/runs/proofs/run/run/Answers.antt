@@ -16,14 +16,14 @@ loop-call-init g c =
     let o = c.in_ok-examination.ensures in
     let d = c.in_ok-examination.examination.discipline in
     let s = opened (g.D.Discipline.admission d) (g.D.Discipline.precedence d) c.args.mask in
-    let w = c.in_ok-answers.ensures.made in (
-      subst₂ (λ (vs : List _) (h : List Row). Run s [] [] (map answer_of vs) h) (sym w.0) (sym o.0) done,
+    let w = c.in_ok-answers.ensures in (
+      subst₂ (λ (vs : List _) (h : List Row). Run s [] [] (map answer_of vs) h) (sym w.items) (sym o.0) done,
       o.1,
       refl,
       o.3,
       refl,
-      ap length w.0,
-      omega (arith, ap length c.into_iter-call-iterator.ensures.into_iter-gives.0, w, c.len.ensures, c.args.calls.ok.0),
+      ap length w.items,
+      omega (arith, ap length c.into_iter-call-iterator.ensures.into_iter_gives.0, w.capacity, c.len.ensures, c.args.calls.ok.0),
     )
 
 pub push_reserved-requires : goal.push_reserved-requires
@@ -76,7 +76,7 @@ returns g c =
     let rest = c.loop-call.call-iterator.rest.items in
     let none : length rest ≡ 0 = search rules in
     let all : c.loop-call.yielded ≡ vec_items c.args.calls =
-    none_left c.loop-call.yielded rest (vec_items c.args.calls) none (i.4 ∙ c.into_iter-call-iterator.ensures.into_iter-gives.0)
+    none_left c.loop-call.yielded rest (vec_items c.args.calls) none (i.4 ∙ c.into_iter-call-iterator.ensures.into_iter_gives.0)
     in
     let answers = map answer_of (vec_items c.loop-call.answers) in
     let left = held c.loop-call.examination in

@@ -1,5 +1,5 @@
 use Rattle.std.proofs.Common.{◌≡◌, ◌<◌, ◌≤◌, List, ◌++◌, length, take, drop, vec_items, sym, refl, ap, ◌∙◌, subst, rules}
-use Rattle.rules.specs.Runs.{listed, rules as needs-more, Step, orders, orders_not, classes, classes_not}
+use Rattle.rules.specs.Runs.{listed, needs as needs-more, Step, orders, orders_not, classes, classes_not}
 use Rattle.examination.specs.Exact.{held, setting_of}
 use Rattle.runs.specs.Calls.{call_of, answer_of}
 use Rattle.runs.specs.declared.calls.Call.{Call}
@@ -130,7 +130,7 @@ returns-in-Ok-list g c =
     let long : length out ≡ lent.len = search rules in
     let after = take lent.len (out ++ drop (length out) lent.items) in
     let whole : after ≡ out = take_at out (drop (length out) lent.items) lent.len long in
-    let was = c.deref-mut.ensures.value in
+    let was = c.deref_mut.ensures.value in
     let w = c.in-Ok-list.ensures in
     let n = c.in-Ok-list.n in
     record {
@@ -153,7 +153,7 @@ returns-in-Err-list g c =
     let long : length out ≡ lent.len = search rules in
     let after = take lent.len (out ++ drop (length out) lent.items) in
     let whole : after ≡ out = take_at out (drop (length out) lent.items) lent.len long in
-    let was = c.deref-mut.ensures.value in
+    let was = c.deref_mut.ensures.value in
     let w = c.in-Err-list.ensures in
     let n = c.in-Err-list.short.needed in
     record {
