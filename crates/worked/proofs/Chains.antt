@@ -1,5 +1,5 @@
 -- The nearest posts of each position, computed from the task posts.
-use Rattle.std.proofs.Common.{◌≡◌, ℕ, zero, suc, ◌+◌, ◌<◌, Bool, true, false, cond, List, [], map, length, Some, None, Option, sym, refl, ◌∙◌, subst, ⊎_elim, arith, eq-eqb, eqb-true}
+use Rattle.std.proofs.Common.{◌≡◌, ℕ, zero, suc, ◌+◌, ◌<◌, Bool, true, false, cond, List, map, length, Some, None, Option, sym, refl, ◌∙◌, subst, ⊎_elim, arith, eq-eqb, eqb-true}
 use borrow.Author.Tests.{not-false, clash}
 use Rattle.std.specs.List.{range_with_len}
 use Rattle.std.proofs.lemmas.List.FromFn.{get_or-map-range_with_len}

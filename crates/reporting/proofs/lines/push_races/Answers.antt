@@ -1,4 +1,4 @@
-use Rattle.std.proofs.Common.{◌≡◌, string_bytes, sym, ap, ◌∙◌}
+use Rattle.std.proofs.Common.{string_bytes, sym, ap, ◌∙◌}
 use Rattle.rules.specs.declared.race.RaceRow.{RaceRow}
 use Rattle.recording.proofs.Added.{also, same_text, each_more, each_all}
 use Rattle.reporting.specs.Lines.{race_line}

@@ -1,4 +1,4 @@
-use Rattle.std.proofs.Common.{◌≡◌, ◌<◌, List, ◌++◌, length, take, drop, vec_items, sym, ap, ◌∙◌, subst, arith, rules}
+use Rattle.std.proofs.Common.{◌≡◌, ◌<◌, length, take, drop, vec_items, sym, ap, ◌∙◌, subst, arith, rules}
 use Rattle.std.proofs.lemmas.List.{take_at}
 use Rattle.rules.specs.Answers.{In, RaceList}
 use Rattle.examination.specs.Exact.{held}
@@ -22,14 +22,14 @@ returns-in-Ok g c =
       listed =
           λ exact.
           let l = w.listed exact in
-          subst (RaceList D (held e)) (sym kept) (written_races D (held e) c.deref-mut.result.now out l.0 n l.1 l.2.0 l.2.1);
+          subst (RaceList D (held e)) (sym kept) (written_races D (held e) c.deref_mut.result.now out l.0 n l.1 l.2.0 l.2.1);
     }
 
 pub returns-in-Err : goal.returns-in-Err
 returns-in-Err g c =
     let w = c.in-Err.ensures in
     let few : c.args.places < c.in-Err.short.needed =
-    omega (arith, w.kept.0, c.deref-mut.ensures.len, c.in_ok-races.ensures.len)
+    omega (arith, w.kept.0, c.deref_mut.ensures.len, c.in_ok-races.ensures.len)
     in
     record {
       pass = tt;

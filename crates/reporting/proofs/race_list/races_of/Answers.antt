@@ -1,4 +1,4 @@
-use Rattle.std.proofs.Common.{[], Err, subst}
+use Rattle.std.proofs.Common.{[], subst}
 use Rattle.rules.specs.Answers.{In}
 use Rattle.rules.specs.declared.race.RaceRow.{RaceRow}
 use Rattle.examination.specs.Exact.{held}
@@ -18,6 +18,6 @@ returns-in-Err-2 g c =
       listed =
           λ exact.
           let once = subst (Lists D (held e) _) c.in-Err.is (c.in_ok-races.ensures.listed exact) in
-          let again = subst (Lists D (held e) _) c.in-Err-2.is (c.in_ok-races-2.ensures.listed exact) in
+          let again = subst (Lists D (held e) _) c.in-Err-2.is (c.in_ok-races-in-Err.ensures.listed exact) in
           absurd (no_more_needed D (held e) once.0 again.0 _ _ once.1 once.2 again.1 again.2 again.3);
     }

@@ -1,13 +1,11 @@
-use Rattle.std.proofs.Common.{◌≡◌, ℕ, true, List, [], Ok, Err, vec_items, sym, refl, ap, ◌∙◌, subst, subst₂}
+use Rattle.std.proofs.Common.{true, [], Ok, Err, vec_items, sym, refl, ap, ◌∙◌, subst, subst₂}
 use Rattle.std.proofs.lemmas.Result.{err_from_is_err_and}
-use Rattle.recording.specs.declared.row.Row.{Row}
-use Rattle.dispatch.specs.Recorded.{admission_of, precedence_of}
-use Rattle.rules.specs.Acceptance.{Setting}
+use Rattle.dispatch.specs.Recorded.{precedence_of}
 use Rattle.rules.specs.Answers.{RaceList}
-use Rattle.examination.specs.Exact.{held, setting_of}
+use Rattle.examination.specs.Exact.{held}
 use Rattle.feeding.specs.Feeding.{Feeds}
 use Rattle.reporting.specs.Lines.{report_text}
-use Rattle.reporting.specs.Reports.{Reported, examined, setting_in, Examines}
+use Rattle.reporting.specs.Reports.{Reported, examined}
 use Rattle.reporting.proofs.Settings.{setting_read}
 use Rattle.reporting.proofs.report.examine.Goals as goal
 

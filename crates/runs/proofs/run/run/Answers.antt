@@ -1,10 +1,9 @@
-use Rattle.std.proofs.Common.{◌≡◌, ℕ, List, [], ◌∷◌, ◌++◌, map, length, vec_items, sym, refl, ap, ◌∙◌, subst, subst₂, append_assoc, arith, length-append, rules}
+use Rattle.std.proofs.Common.{◌≡◌, List, [], ◌∷◌, ◌++◌, map, length, vec_items, sym, refl, ap, ◌∙◌, subst₂, append_assoc, arith, length-append, rules}
 use Rattle.std.proofs.lemmas.List.{map-append}
 use Rattle.recording.specs.declared.row.Row.{Row}
-use Rattle.rules.specs.Acceptance.{Setting}
 use Rattle.rules.specs.Runs.{Run, done, Step}
 use Rattle.rules.proofs.RenamedRuns.{renamed_runs}
-use Rattle.examination.specs.Exact.{held, setting_of}
+use Rattle.examination.specs.Exact.{held}
 use Rattle.runs.specs.Calls.{call_of, answer_of}
 use Rattle.rules.specs.Acceptance.{opened}
 use Rattle.runs.proofs.Steps.{run_push, none_left}

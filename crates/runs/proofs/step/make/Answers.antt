@@ -1,9 +1,8 @@
-use Rattle.std.proofs.Common.{◌≡◌, ◌<◌, ◌≤◌, List, ◌++◌, length, take, drop, vec_items, sym, refl, ap, ◌∙◌, subst, rules}
-use Rattle.rules.specs.Runs.{listed, needs as needs-more, Step, orders, orders_not, classes, classes_not}
+use Rattle.std.proofs.Common.{◌≡◌, ◌<◌, ◌≤◌, ◌++◌, length, take, drop, vec_items, sym, refl, ap, ◌∙◌, subst, rules}
+use Rattle.rules.specs.Runs.{listed, needs as needs_more, Step, orders, orders_not, classes, classes_not}
 use Rattle.examination.specs.Exact.{held, setting_of}
 use Rattle.runs.specs.Calls.{call_of, answer_of}
 use Rattle.runs.specs.declared.calls.Call.{Call}
-use Rattle.runs.specs.declared.calls.Answer.{Answer}
 use Rattle.runs.specs.declared.calls.Answer.TheVariants as answer
 use Rattle.std.proofs.lemmas.List.{take_at}
 use Rattle.runs.proofs.Steps.{step_adds, step_refuses, step_cuts, step_cuts_not, step_lists, step_lists_not}
@@ -160,7 +159,7 @@ returns-in-Err-list g c =
       step =
           λ x.
           let l = w.listed x in
-          subst (λ (k : Call). Step s (held e) (call_of k) (needs-more n after) (held e)) (sym c.in-List.is)
+          subst (λ (k : Call). Step s (held e) (call_of k) (needs_more n after) (held e)) (sym c.in-List.is)
           (step_lists_not s (held e) n (vec_items lent) after l.0 l.1 l.2 (subst (λ xs. length xs < n) was w.kept.0)
           (whole ∙ (w.kept.1 ∙ was)));
       setting = (refl, refl);
