@@ -1,5 +1,5 @@
 -- The names of lines: which line has a name, and that a name has no space.
-use Rattle.std.proofs.Common.{◌≡◌, ℕ, ◌^◌, ◌<◌, ◌≤◌, List, [], ◌∷◌, ◌++◌, length, get_or, Some, None, codes, decimal, Option, sym, refl, ap, ◌∙◌, arith}
+use Rattle.std.proofs.Common.{◌≡◌, ℕ, ◌^◌, ◌<◌, ◌≤◌, List, get_or, Some, None, codes, decimal, Option, sym, refl, ap, ◌∙◌, arith}
 use Rattle.recording.specs.declared.row.Row.{Row}
 use Rattle.script.specs.Texts.{Read, before, two}
 use Rattle.script.specs.Lines.{row_text, RowFits, name_of, words_of, line_text, LineFits, Named}

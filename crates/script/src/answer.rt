@@ -55,22 +55,32 @@ pub fn push_answer(text: &mut String, answer: &Answer) -> fmt::Result
         Answer::Added(added) => {
             let position = added.position;
             let before = added.before;
-            write!(text, "added {position} {before}\n")
+            write!(text, "added {position} {before}\n")?;
+            Ok(())
         }
         Answer::Refused(fault) => {
             let number = fault.number();
-            write!(text, "refused {number}\n")
+            write!(text, "refused {number}\n")?;
+            Ok(())
         }
-        Answer::Cut(n) => write!(text, "cut {n}\n"),
+        Answer::Cut(n) => {
+            write!(text, "cut {n}\n")?;
+            Ok(())
+        }
         Answer::Ordered(order) => {
             let name = order_name(*order);
-            write!(text, "{name}\n")
+            write!(text, "{name}\n")?;
+            Ok(())
         }
         Answer::Classed(class) => {
             let number = class_number(*class);
-            write!(text, "class {number}\n")
+            write!(text, "class {number}\n")?;
+            Ok(())
         }
-        Answer::NotHeld => write!(text, "refused {NOT_HELD}\n"),
+        Answer::NotHeld => {
+            write!(text, "refused {NOT_HELD}\n")?;
+            Ok(())
+        }
         Answer::Listed(n, places) => {
             write!(text, "listed {n}\n")?;
             push_places(text, places)?;

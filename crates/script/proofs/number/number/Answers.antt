@@ -1,4 +1,4 @@
-use Rattle.std.proofs.Common.{◌≡◌, ℕ, ◌≤◌, length, get_or, sym, ◌∙◌, ⊎_elim, arith}
+use Rattle.std.proofs.Common.{◌≡◌, ◌≤◌, length, get_or, sym, ⊎_elim, arith}
 use Rattle.std.proofs.lemmas.Fmt.{parse-decimal}
 use Rattle.std.proofs.lemmas.Result.{OkIff-at_ok}
 use Rattle.std.proofs.lemmas.Str.Pattern.{starts_char}
@@ -35,8 +35,8 @@ returns-in_default c =
     let same : c.in-Ok.n ≡ m = cc in
     omega arith
 
-pub returns-in-default·2 : goal.returns-in-default·2
-returns-in-default·2 c =
+pub returns-in_default-2 : goal.returns-in_default-2
+returns-in_default-2 c =
     λ m le e.
     let is = parse-decimal 64 m c.args.word.now c.parse.result (omega arith) (omega arith) (sym e) c.parse.ensures.value.0 in
     c.in_default.ensures.value.0 (OkIff-at_ok c.parse.result _ _ m c.parse.ensures.value.0 is).0

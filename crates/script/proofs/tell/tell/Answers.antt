@@ -11,18 +11,18 @@ returns-in_default c =
     subst₂ (λ t w. Tells c.args.script.now t w) (sym said) (sym c.refusal.ensures.1)
     (opens_nothing c.first_line.ensures (λ d m fits e. c.in_default.ensures (d, m) fits e))
 
-pub returns-in_ok-read : goal.returns-in_ok-read
-returns-in_ok-read c =
+pub returns-in_ok-read-in-Some-new : goal.returns-in_ok-read-in-Some-new
+returns-in_ok-read-in-Some-new c =
     IfOk-weaker c.answered.result _ _
     (λ told ran.
     run_told c.args.script.now c.first_line.result.0.now c.first_line.result.1.now c.in-Some-new.kind
-    c.in-Some.number c.in-Some.mask c.in_ok-read.field-0 (string_bytes told.text) told.whole
-    c.first_line.ensures c.in-Some.ensures c.in-Some-new.ensures c.in_ok-read.ensures ran)
+    c.in-Some.number c.in-Some.mask c.in_ok-read-in-Some-new.field-0 (string_bytes told.text) told.whole
+    c.first_line.ensures c.in-Some.ensures c.in-Some-new.ensures c.in_ok-read-in-Some-new.ensures ran)
     c.answered.ensures
 
-pub returns-in_ok-format-2 : goal.returns-in_ok-format-2
-returns-in_ok-format-2 c =
-    let said = ap (λ t. string_bytes t) c.refusal-in-None.ensures.0 ∙ c.in_ok-format-2.ensures.ok ∙ no_discipline_said in
+pub returns-in_ok-format-in-None : goal.returns-in_ok-format-in-None
+returns-in_ok-format-in-None c =
+    let said = ap (λ t. string_bytes t) c.refusal-in-None.ensures.0 ∙ c.in_ok-format-in-None.ensures.ok ∙ no_discipline_said in
     let opening = c.in-Some.ensures in
     subst₂ (λ t w. Tells c.args.script.now t w) (sym said) (sym c.refusal-in-None.ensures.1)
     (no_discipline c.in-Some.number c.in-Some.mask

@@ -15,10 +15,10 @@ returns-in-Ok c =
     call_taken s c.call.new.self (Some (Add row)) _ s.left c.call.result
     (subst (λ x. Asks s.left (Some (Add row)) (call (add x)) s.left) (sym o.1) (adds o.0)) c.call.ensures
 
-pub returns-in_ok-push : goal.returns-in_ok-push
-returns-in_ok-push c =
+pub returns-in_ok-push-in-Err : goal.returns-in_ok-push-in-Err
+returns-in_ok-push-in-Err c =
     inr (
       c.in-Err.fault,
       adds_not c.in-Err.ensures,
-      (c.in_ok-push.ensures.items, sym (append-nil (calls_of c.args.self.now)), refl),
+      (c.in_ok-push-in-Err.ensures.items, sym (append-nil (calls_of c.args.self.now)), refl),
     )

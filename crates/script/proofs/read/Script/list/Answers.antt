@@ -12,7 +12,7 @@ pub returns : goal.returns
 returns c =
     let s = c.args.self.now in
     let n = c.args.n in
-    let same = c.in_ok-vec.ensures.items-if-clones-equal (λ y e. e) in
+    let same = c.in_ok-vec.ensures.items_if_clones_equal (λ y e. e) in
     call_taken s c.call.new.self (Some (Races n)) _ (s.left - n) c.call.result
     (subst (λ places. Asks s.left (Some (Races n)) (call (list places)) (s.left - n)) (sym same) (lists c.if-n-self.false))
     c.call.ensures
