@@ -1,7 +1,7 @@
 -- A renaming changes no answer of a run.
 use Rattle.std.proofs.Common.{◌≡◌, ℕ, ◌<◌, ◌≤◌, min, max, true, ◌⊎◌, List, [], ◌∷◌, ◌++◌, map, length, sym, refl, ◌∙◌, subst, subst₂, arith}
 use lib.ListN.{length-map}
-use Rattle.std.specs.List.{AllByRecursion as All}
+use Rattle.std.specs.List.{AllByRecursion}
 use Rattle.std.proofs.lemmas.List.{map_push, take-map, take_at}
 use Rattle.recording.specs.Lawful.{lawful}
 use Rattle.recording.specs.declared.row.Row.{Row}
@@ -184,7 +184,7 @@ module _ (m : Renaming) (s s' : Setting) (like : RenamedSetting m s s') where
   run_moved :
       {held : List Row} {calls calls' : List Call} {answers answers' : List Answer} {left left' : List Row}
       → Fair s held
-      → All LawfulCall calls
+      → AllByRecursion LawfulCall calls
       → Run s held calls answers left
       → Pairwise (RenamedCall m) calls calls'
       → Run s' (new held) calls' answers' left'
@@ -198,7 +198,7 @@ module _ (m : Renaming) (s s' : Setting) (like : RenamedSetting m s s') where
 
 pub renamed_runs :
     (s : Setting) (calls : List Call) (answers : List Answer) (left : List Row)
-    → All LawfulCall calls
+    → AllByRecursion LawfulCall calls
     → Run s [] calls answers left
     → SameRenamed s calls answers
 renamed_runs s calls answers left w run m s' like calls' cs answers' left' run' =

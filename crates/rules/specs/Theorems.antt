@@ -1,6 +1,6 @@
 -- What is proved of whole runs.
 use Rattle.std.specs.Prelude.{◌≡◌, List, []}
-use Rattle.std.specs.List.{AllByRecursion as All}
+use Rattle.std.specs.List.{AllByRecursion}
 use Rattle.recording.specs.declared.row.Row.{Row}
 use Rattle.rules.specs.Acceptance.{Setting}
 use Rattle.rules.specs.Runs.{Call, Answer, Run, LawfulCall, SameRenamed}
@@ -19,6 +19,6 @@ RunsAreDetermined =
 abbrev pub RenamingChangesNoAnswer : Type 0
 RenamingChangesNoAnswer =
     (s : Setting) (calls : List Call) (answers : List Answer) (left : List Row)
-    → All LawfulCall calls
+    → AllByRecursion LawfulCall calls
     → Run s [] calls answers left
     → SameRenamed s calls answers

@@ -1,6 +1,6 @@
 -- The calls of a run add lawful rows.
 use Rattle.std.proofs.Common.{List, [], ◌∷◌, map}
-use Rattle.std.specs.List.{AllByRecursion as All}
+use Rattle.std.specs.List.{AllByRecursion}
 use Rattle.rules.specs.Runs.{LawfulCall}
 use Rattle.runs.specs.Calls.{call_of}
 use Rattle.runs.specs.declared.calls.Call.{Call}
@@ -13,6 +13,6 @@ lawful_one (call.Order i j) = tt
 lawful_one (call.Class i j) = tt
 lawful_one (call.List places) = tt
 
-pub lawful_calls : (calls : List Call) → All LawfulCall (map call_of calls)
+pub lawful_calls : (calls : List Call) → AllByRecursion LawfulCall (map call_of calls)
 lawful_calls [] = tt
 lawful_calls (c ∷ calls) = (lawful_one c, lawful_calls calls)

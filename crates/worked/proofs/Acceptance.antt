@@ -1,7 +1,7 @@
 -- Operations that are accepted in turn, and operations that are refused next.
 use Rattle.std.proofs.Common.{◌≡◌, ℕ, Bool, true, false, not, ◌&&◌, eqb, List, [], ◌∷◌, ◌++◌, map, is_some, Some, None, Option, sym, refl, subst, append_assoc, append-nil, eqb-true}
 use borrow.Author.Tests.{clash}
-use Rattle.std.specs.List.{AllByRecursion as All}
+use Rattle.std.specs.List.{AllByRecursion}
 use Rattle.std.proofs.lemmas.Bool.{and_parts}
 use Rattle.recording.specs.Lawful.{lawful}
 use Rattle.recording.specs.declared.row.Row.{Row}
@@ -39,7 +39,7 @@ module _ (s : Setting) where
       subst (Fair s) (append_assoc held (o ∷ []) more)
       (accepts_fair (held ++ o ∷ []) more (fair_push s held o fair w n) r)
 
-  pub accepts_lawful : (held more : List Row) → accepts held more ≡ true → All LawfulCall (map add more)
+  pub accepts_lawful : (held more : List Row) → accepts held more ≡ true → AllByRecursion LawfulCall (map add more)
   accepts_lawful held [] h = tt
   accepts_lawful held (o ∷ more) h =
       let (w, _, r) = accepts_one held o more h in
@@ -79,6 +79,6 @@ module _ (s : Setting) where
     refuses_run [] h = done
     refuses_run (r ∷ more) h = let (_, step, rest) = refuses_one r more h in next step (refuses_run more rest)
 
-    pub refuses_lawful : (rows : List (Row × ℕ)) → refuses_all rows ≡ true → All LawfulCall (map (λ r. add r.0) rows)
+    pub refuses_lawful : (rows : List (Row × ℕ)) → refuses_all rows ≡ true → AllByRecursion LawfulCall (map (λ r. add r.0) rows)
     refuses_lawful [] h = tt
     refuses_lawful (r ∷ more) h = let (w, _, rest) = refuses_one r more h in (w, refuses_lawful more rest)

@@ -2,7 +2,7 @@
 use Rattle.std.proofs.Common.{◌≡◌, ◌+◌, Bool, true, false, ◌&&◌, eqb, leb, List, [], ◌∷◌, map, length, refl, ap, subst, arith, eqb-true, leb-true}
 use borrow.Author.Tests.{clash}
 use Rattle.std.specs.Fmt.{digits}
-use Rattle.std.specs.List.{AllByRecursion as All}
+use Rattle.std.specs.List.{AllByRecursion}
 use Rattle.std.proofs.ByRecursion.{All-append}
 use Rattle.std.proofs.lemmas.Bool.{and_parts}
 use Rattle.columns.specs.Positions.{has, tally}
@@ -96,7 +96,7 @@ abbrev all_right : List Example → Bool
 all_right [] = true
 all_right (e ∷ es) = right e && all_right es
 
-all_stand : (es : List Example) → all_right es ≡ true → All Stands es
+all_stand : (es : List Example) → all_right es ≡ true → AllByRecursion Stands es
 all_stand [] h = tt
 all_stand (e ∷ es) h = let (a, b) = and_parts (right e) (all_right es) h in (stands e a, all_stand es b)
 

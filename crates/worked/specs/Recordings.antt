@@ -1,6 +1,6 @@
 -- Recordings worked through, and when such an example is right.
 use Rattle.std.specs.Prelude.{◌≡◌, ℕ, suc, Bool, true, false, ◌||◌, ◌↔◌, List, [], ◌∷◌, ◌++◌, map, length, ◌==◌, slice_index_or}
-use Rattle.std.specs.List.{AllByRecursion as All}
+use Rattle.std.specs.List.{AllByRecursion}
 use Rattle.recording.specs.Disciplines.{discipline_number}
 use Rattle.recording.specs.Rows.{blank}
 use Rattle.recording.specs.declared.discipline.DisciplineKind.{DisciplineKind}
@@ -64,7 +64,7 @@ among i (k ∷ ks) = i == k || among i ks
 -- all that the example lists is right, and nothing is missing from it
 pub record Stands (e : Example) : Type 0 where
   -- the calls can be made
-  pub lawful : All LawfulCall (calls e)
+  pub lawful : AllByRecursion LawfulCall (calls e)
   -- each operation is accepted in its turn, and each that is refused has its number
   pub run : Run (setting e) [] (calls e) (answers e) (operations e)
   -- of any two positions

@@ -1,7 +1,7 @@
 -- The table of worked recordings. A row is a code, a thread, a task, lock or location, and a target;
 -- beside it stand the positions that are before it.
 use Rattle.std.specs.Prelude.{◌≡◌, ℕ, true, false, List, [], ◌∷◌, ◌++◌, map, Some, None, codes}
-use Rattle.std.specs.List.{AllByRecursion as All}
+use Rattle.std.specs.List.{AllByRecursion}
 use Rattle.recording.specs.Codes.{threadinit, attach_q, loop_on_q, post, begin, end, acquire, release, read, write}
 use Rattle.recording.specs.Posts.{marks_number, delay_number}
 use Rattle.recording.specs.Rows.{plain}
@@ -299,6 +299,6 @@ pub record DelaysStand : Type 0 where
   pub undelayed_first : (m : Marks) → precedence_of Timed at_once m ≡ true
 
 pub record RecordingsStand : Type 0 where
-  pub examples : All Stands table
+  pub examples : AllByRecursion Stands table
   pub delays : DelaysStand
   pub text : Reported (file two_panels) (codes "ops 9 races 1\n5 7 multi-threaded\n") true
