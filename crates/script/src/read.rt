@@ -1,9 +1,7 @@
 //! Scripts.
-ghost use Rattle.std.specs.Prelude.{◌≡◌, [], ◌∷◌, IfOk, Some, None};
+ghost use Rattle.std.specs.Prelude.{◌≡◌, ◌≤◌, [], ◌∷◌, IfOk, Some, None};
 ghost use Rattle.runs.specs.Calls.{call_of};
 ghost use Rattle.script.specs.Lines.{line_text, LineFits};
-ghost use Rattle.script.specs.Readings.{steps_of, calls_of, Grown, Takes, ReadAs};
-ghost use Rattle.script.specs.Scripts.{most_lent};
 ghost use Rattle.script.specs.Texts.{Read, FirstLine};
 ghost use Rattle.script.specs.declared.line.Line.TheVariants.{Open, Add, List as Races};
 ghost use Rattle.script.specs.declared.read.Step.TheVariants.{Called};
@@ -46,6 +44,7 @@ pub(crate) struct Script {
     pub left: usize,
     /// The bad line, if there is one.
     pub stop: Option<AtLine>,
+    ghost bounded: { left ≤ 1048576 },
 }
 
 /// A text's first line without its end, and the lines after it.
@@ -61,7 +60,7 @@ pub(crate) fn first_line(text: &[u8]) -> (&[u8], &[u8])
 }
 
 /// The line that bytes write.
-fn read_line(bytes: &[u8]) -> Option<Line>
+pub(crate) fn read_line(bytes: &[u8]) -> Option<Line>
     ensures { Read LineFits line_text bytes.now result }
 {
     let text = from_utf8(bytes).ok()?;
@@ -79,6 +78,9 @@ pub(crate) fn opening(bytes: &[u8]) -> Option<(u8, u64)>
 }
 
 impl Script {
+    ghost use Rattle.script.specs.Readings.{steps_of, calls_of, Grown, Takes, ReadAs};
+    ghost use Rattle.script.specs.Scripts.{most_lent};
+
     fn new(heap: Global) -> Script
         ensures { (steps_of result ≡ []) × (calls_of result ≡ []) × (result.left ≡ most_lent) × (result.stop ≡ None) }
     {
