@@ -2,7 +2,7 @@
 //! alone, on many recordings and scripts, each also with all its numbers renamed.
 //!
 //!     rustc -O --edition 2021 -o target/compare tests/compare/main.rs
-//!     target/compare target/bin/report target/bin/calls [SECONDS] [SEED]
+//!     target/compare crates/report/out/report crates/calls/out/calls [SECONDS] [SEED]
 //!     target/compare --store DIRECTORY
 //!     target/compare --expect report|calls < INPUT
 
