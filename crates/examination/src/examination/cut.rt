@@ -20,7 +20,8 @@ impl<D: Discipline + Drop> Examination<D> {
         self.rows.truncate(n);
         self.columns.truncate(n);
         self.nearests.truncate(n);
-        self.state = State::rebuild(self.mask, &self.rows);
+        let state = State::rebuild(self.mask, &self.rows);
+        self.state = state;
         Ok(())
     }
 }

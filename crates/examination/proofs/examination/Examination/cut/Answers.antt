@@ -21,18 +21,18 @@ invariant_of-self g c =
           (λ k.
           sound_cut e.mask c.args.n (vec_items e.rows) (vec_items c.truncate.new.self) (vec_items e.columns)
           (vec_items c.truncate-2.new.self) (vec_items e.nearests) (vec_items c.truncate-3.new.self) e.state
-          c.rebuild-self.result k c.truncate.ensures.items c.truncate-2.ensures.items c.truncate-3.ensures.items
-          (subst (λ x. FairTables (bit e.mask) x → length x ≤ 512 → Follows (bit e.mask) x c.rebuild-self.result)
-          c.deref.ensures.value c.rebuild-self.ensures));
+          c.rebuild-state.result k c.truncate.ensures.items c.truncate-2.ensures.items c.truncate-3.ensures.items
+          (subst (λ x. FairTables (bit e.mask) x → length x ≤ 512 → Follows (bit e.mask) x c.rebuild-state.result)
+          c.deref.ensures.value c.rebuild-state.ensures));
     }
 
 pub returns : goal.returns
 returns g c =
     let e = c.args.self.now in
     let follows : FairTables (bit e.mask) (vec_items c.truncate.new.self) → length (vec_items c.truncate.new.self) ≤ 512
-    → Follows (bit e.mask) (vec_items c.truncate.new.self) c.rebuild-self.result =
-    subst (λ x. FairTables (bit e.mask) x → length x ≤ 512 → Follows (bit e.mask) x c.rebuild-self.result) c.deref.ensures.value
-    c.rebuild-self.ensures
+    → Follows (bit e.mask) (vec_items c.truncate.new.self) c.rebuild-state.result =
+    subst (λ x. FairTables (bit e.mask) x → length x ≤ 512 → Follows (bit e.mask) x c.rebuild-state.result) c.deref.ensures.value
+    c.rebuild-state.ensures
     in
     record {
       cuts = (omega (arith, c.if-n-len.false, c.len.ensures, e.rows.ok.0), c.truncate.ensures.items);
@@ -44,7 +44,7 @@ returns g c =
             sound =
                 sound_cut e.mask c.args.n (vec_items e.rows) (vec_items c.truncate.new.self) (vec_items e.columns)
                 (vec_items c.truncate-2.new.self) (vec_items e.nearests) (vec_items c.truncate-3.new.self) e.state
-                c.rebuild-self.result x.sound c.truncate.ensures.items c.truncate-2.ensures.items c.truncate-3.ensures.items
+                c.rebuild-state.result x.sound c.truncate.ensures.items c.truncate-2.ensures.items c.truncate-3.ensures.items
                 follows;
             columns =
                 right_cut c.args.n (vec_items e.rows) (vec_items c.truncate.new.self) (vec_items e.columns)
