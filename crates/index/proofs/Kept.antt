@@ -11,7 +11,7 @@ use Rattle.recording.specs.Codes.{threadexit, attach_q, end, release, enable}
 use Rattle.rules.specs.Acceptance.{does, is_on, forks, loops}
 use Rattle.rules.specs.Options.{is_of}
 use Rattle.index.specs.declared.sets.Index.{Index}
-use Rattle.index.specs.Indexed.{KeepsSince, by_thread, unlooped_at, member_at, Indexed, NotedKinds, NotedRest}
+use Rattle.index.specs.Indexed.{KeepsSince, by_thread, unlooped_at, member_at, Indexed, NotedKinds, NotedRest, SameSets}
 use Rattle.index.specs.Noted.{AddsIf}
 
 pub row_earlier : (held : List Row) (o : Row) (i : ℕ) → i < length held → row (held ++ o ∷ []) i ≡ row held i
@@ -47,11 +47,7 @@ module _ (size : ℕ) (P : List Row → ℕ → Row → Bool) (held : List Row) 
     longer = length-append held (o ∷ [])
 
     said : (k i : ℕ) → k < size → has (column_at after k) i ≡ ((ltb i (length held) && P (take i held) k (row held i)) || (P held k o && eqb i (length held)))
-    said k i l =
-        adds k i l
-        ∙ (ap (λ b. has (column_at before k) i || (P held k o && (eqb i (length held) && b))) (lt-ltb (length held) 512 room)
-        ∙ (ap (λ b. has (column_at before k) i || (P held k o && b)) (and_true (eqb i (length held)))
-        ∙ ap (λ b. b || (P held k o && eqb i (length held))) (kept k i l)))
+    said k i l = adds k i l room ∙ ap (λ b. b || (P held k o && eqb i (length held))) (kept k i l)
 
     pub keeps_push : KeepsSince size P (held ++ o ∷ []) after
     keeps_push k i l =
@@ -95,8 +91,8 @@ module _ (size : ℕ) (P : List Row → ℕ → Row → Bool) (held : List Row) 
 same_test :
     (size : ℕ) (P Q : ℕ → Bool) (position : ℕ) (before after : List Column) → ((k : ℕ) → P k ≡ Q k)
     → AddsIf size P position before after → AddsIf size Q position before after
-same_test size P Q position before after e adds k i l =
-    adds k i l ∙ ap (λ b. has (column_at before k) i || (b && (eqb i position && ltb position 512))) (e k)
+same_test size P Q position before after e adds k i l room =
+    adds k i l room ∙ ap (λ b. has (column_at before k) i || (b && eqb i position)) (e k)
 
 looping_alike : (t : ℕ) (f : ℕ → Bool) (looping : Bool) → looping ≡ f t → (k : ℕ) → (eqb t k && not looping) ≡ (eqb t k && not (f k))
 looping_alike t f looping e k = go (eqb t k) refl
@@ -139,3 +135,19 @@ module _
               (subst (λ x. AddsIf 512 (λ k. member_at held k o) (length held) x after.members) kinds.members
               (same_test 512 _ _ _ _ _ tasks-so rest.members));
         }
+
+-- ---- Nothing noted, twice
+
+pub same_sets : (before middle after : Index) → SameSets before middle → SameSets middle after → SameSets before after
+same_sets before middle after a b =
+    record {
+      own = λ k i l. b.own k i l ∙ a.own k i l;
+      unlooped = λ k i l. b.unlooped k i l ∙ a.unlooped k i l;
+      attaches = λ k i l. b.attaches k i l ∙ a.attaches k i l;
+      forked = λ k i l. b.forked k i l ∙ a.forked k i l;
+      exits = λ k i l. b.exits k i l ∙ a.exits k i l;
+      ended = λ k i l. b.ended k i l ∙ a.ended k i l;
+      releases = λ k i l. b.releases k i l ∙ a.releases k i l;
+      enables = λ k i l. b.enables k i l ∙ a.enables k i l;
+      members = λ k i l. b.members k i l ∙ a.members k i l;
+    }

@@ -9,7 +9,7 @@ use Rattle.happens_before.specs.Trace.{row}
 use Rattle.rules.specs.Acceptance.{does, does_on, is_on, forks, loops, current}
 use Rattle.index.specs.declared.sets.Index.{Index}
 use Rattle.rules.specs.Options.{is_of}
-use Rattle.index.specs.Noted.{AddsIf, Notes}
+use Rattle.index.specs.Noted.{AddsIf, Notes, SameColumns}
 
 -- the column of each key has the held positions at which the operation fits
 abbrev pub Keeps : ℕ → (ℕ → Row → Bool) → List Row → List Column → Type 0
@@ -66,3 +66,15 @@ pub record NotedRest (thread : ℕ) (looping : Bool) (task : Option ℕ) (positi
   pub ended : after.ends ≡ before.ends
   pub releases : after.releases ≡ before.releases
   pub enables : after.enables ≡ before.enables
+
+-- no set has another position than before
+pub record SameSets (before after : Index) : Type 0 where
+  pub own : SameColumns 64 before.own after.own
+  pub unlooped : SameColumns 64 before.unlooped after.unlooped
+  pub attaches : SameColumns 64 before.attaches after.attaches
+  pub forked : SameColumns 64 before.forks after.forks
+  pub exits : SameColumns 64 before.exits after.exits
+  pub ended : SameColumns 64 before.ends after.ends
+  pub releases : SameColumns 64 before.releases after.releases
+  pub enables : SameColumns 512 before.enables after.enables
+  pub members : SameColumns 512 before.members after.members

@@ -1,10 +1,10 @@
 //! Positions noted as operations are accepted.
-ghost use Rattle.std.specs.Prelude.{◌≡◌, ℕ, ◌<◌, not, ◌&&◌, List, [], ◌∷◌, ◌++◌, length};
+ghost use Rattle.std.specs.Prelude.{◌≡◌, ℕ, ◌<◌, ◌≤◌, not, ◌&&◌, List, [], ◌∷◌, ◌++◌, length};
 ghost use Rattle.recording.specs.Rows.{operation_row, row_of};
 ghost use Rattle.recording.specs.declared.row.Row.{Row};
 ghost use Rattle.rules.specs.Acceptance.{loops};
 ghost use Rattle.rules.specs.Options.{is_of};
-ghost use Rattle.index.specs.Indexed.{Indexed, NotedKinds, NotedRest, member_at};
+ghost use Rattle.index.specs.Indexed.{Indexed, NotedKinds, NotedRest, SameSets, member_at};
 
 use crate::sets::Index;
 use crate::table::note;
@@ -34,7 +34,8 @@ impl Index {
 
     /// Notes the position in the sets that depend on the operation alone.
     fn note_kinds(&mut self, thread: Thread, action: Action, position: usize)
-        ensures { NotedKinds (row_of thread.number action) position self.old self.new }
+        ensures noted { NotedKinds (row_of thread.number action) position self.old self.new }
+        ensures past { 512 ≤ position → SameSets self.old self.new }
     {
         let t = thread.number() as usize;
         note(&mut self.own, t, position);
@@ -51,7 +52,8 @@ impl Index {
 
     /// Notes the position in the sets that depend on what stood before.
     fn note_rest(&mut self, thread: Thread, position: usize, looping: bool, task: Option<u16>)
-        ensures { NotedRest thread.number looping task position self.old self.new }
+        ensures noted { NotedRest thread.number looping task position self.old self.new }
+        ensures past { 512 ≤ position → SameSets self.old self.new }
     {
         if !looping {
             note(&mut self.unlooped, thread.number() as usize, position);
@@ -61,7 +63,8 @@ impl Index {
         }
     }
 
-    /// Notes the position of an accepted operation, by whether its thread looped before it and by its task.
+    /// Notes the position of an accepted operation, by whether its thread looped before it and by its task;
+    /// from 512 on nothing changes.
     pub fn note_operation(
         &mut self,
         operation: Operation,
@@ -71,6 +74,7 @@ impl Index {
     )
         ensures indexed { (held : List Row) → Indexed held self.old → position ≡ length held → position < 512 → looping ≡ loops held (operation_row operation).thread → ((p : ℕ) → is_of task p ≡ member_at held p (operation_row operation)) → Indexed (held ++ operation_row operation ∷ []) self.new }
         ensures noted { (middle : Index) × NotedKinds (operation_row operation) position self.old middle × NotedRest (operation_row operation).thread looping task position middle self.new }
+        ensures past { 512 ≤ position → SameSets self.old self.new }
     {
         let thread = operation.thread();
         self.note_kinds(thread, operation.action(), position);
