@@ -126,7 +126,7 @@ impl Ordering {
         thread(i) != thread(j) || thread(i) == thread(k)
     }
 
-    /// The pairs that queue-order and run-to-completion give and the ordering lacks.
+    /// The pairs that queue order and run to completion give and the ordering lacks.
     fn given_handovers(&self) -> Vec<(usize, usize)> {
         let mut given = Vec::new();
         for (i, first) in self.operations.iter().enumerate() {
