@@ -1,4 +1,5 @@
 pub mod Numbers
+pub mod Names
 pub mod Options
 pub mod Columns
 pub mod Acceptance

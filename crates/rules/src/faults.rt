@@ -6,19 +6,19 @@ ghost use Rattle.rules.specs.Numbers.{state_number};
 #[derive(Clone, Copy, PartialEq, Eq, Debug)]
 pub enum StateFault {
     /// 512 operations are held.
-    Full,
+    Full = 11,
     /// The thread is not created (threadinit) or not running.
-    ThreadNotReady,
+    ThreadNotReady = 12,
     /// The target is not unknown (fork), not finished (join), or does not run with a queue (post).
-    WrongTarget,
+    WrongTarget = 13,
     /// attachQ with a queue, loopOnQ without one or twice, begin without looping.
-    WrongQueue,
+    WrongQueue = 14,
     /// The lock is held by another thread (acquire) or not by this one (release).
-    WrongLock,
+    WrongLock = 15,
     /// Post of a posted task; begin or end out of turn.
-    OutOfTurn,
+    OutOfTurn = 16,
     /// The discipline does not admit the post.
-    NotAdmitted,
+    NotAdmitted = 17,
 }
 
 impl StateFault {
@@ -26,15 +26,7 @@ impl StateFault {
     pub fn number(self) -> u8
         ensures { result ≡ state_number self }
     {
-        match self {
-            StateFault::Full => 11,
-            StateFault::ThreadNotReady => 12,
-            StateFault::WrongTarget => 13,
-            StateFault::WrongQueue => 14,
-            StateFault::WrongLock => 15,
-            StateFault::OutOfTurn => 16,
-            StateFault::NotAdmitted => 17,
-        }
+        self as u8
     }
 }
 

@@ -1,15 +1,19 @@
 //! Races and their classes.
-ghost use Rattle.std.specs.Prelude.{◌≡◌, ◌<◌, MatchOption, ◌≢◌};
+ghost use Rattle.std.specs.Prelude.{◌≡◌, ◌<◌, Some, MatchResult, ◌≢◌};
+ghost use Rattle.rules.specs.Names.{class_name};
 ghost use Rattle.rules.specs.Numbers.{race_number, Passes};
+ghost use Rattle.rules.specs.declared.race.RaceClass.{RaceClass};
+
+use std::fmt;
 
 /// The class of a race.
 #[derive(Clone, Copy, PartialEq, Eq, Debug)]
 pub enum RaceClass {
-    MultiThreaded,
-    CoEnabled,
-    Delayed,
-    CrossPosted,
-    Unknown,
+    MultiThreaded = 1,
+    CoEnabled = 2,
+    Delayed = 3,
+    CrossPosted = 4,
+    Unknown = 5,
 }
 
 impl RaceClass {
@@ -17,27 +21,42 @@ impl RaceClass {
     pub fn number(self) -> u8
         ensures { result ≡ race_number self }
     {
-        match self {
-            RaceClass::MultiThreaded => 1,
-            RaceClass::CoEnabled => 2,
-            RaceClass::Delayed => 3,
-            RaceClass::CrossPosted => 4,
-            RaceClass::Unknown => 5,
+        self as u8
+    }
+}
+
+/// A number that no class has.
+#[derive(Clone, Copy, PartialEq, Eq, Debug)]
+pub struct NotAClass;
+
+impl TryFrom<u8> for RaceClass {
+    type Error = NotAClass;
+
+    ghost try_from_gives = { λ number r. MatchResult r (λ c. race_number c ≡ number) (λ _. (c : RaceClass) → race_number c ≢ number) };
+
+    fn try_from(number: u8) -> Result<Self, NotAClass> {
+        match number {
+            1 => Ok(RaceClass::MultiThreaded),
+            2 => Ok(RaceClass::CoEnabled),
+            3 => Ok(RaceClass::Delayed),
+            4 => Ok(RaceClass::CrossPosted),
+            5 => Ok(RaceClass::Unknown),
+            _ => Err(NotAClass),
         }
     }
+}
 
-    /// The class with this number.
-    pub fn new(number: u8) -> Option<Self>
-        ensures { MatchOption result ((c : RaceClass) → race_number c ≢ number) (λ c. race_number c ≡ number) }
-    {
-        match number {
-            1 => Some(RaceClass::MultiThreaded),
-            2 => Some(RaceClass::CoEnabled),
-            3 => Some(RaceClass::Delayed),
-            4 => Some(RaceClass::CrossPosted),
-            5 => Some(RaceClass::Unknown),
-            _ => None,
-        }
+impl fmt::Display for RaceClass {
+    ghost output = { λ c. Some (class_name (race_number c)) };
+
+    fn fmt<W: fmt::Write>(&self, f: &mut fmt::Formatter<W>) -> fmt::Result {
+        f.write_str(match self {
+            RaceClass::MultiThreaded => "multi-threaded",
+            RaceClass::CoEnabled => "co-enabled",
+            RaceClass::Delayed => "delayed",
+            RaceClass::CrossPosted => "cross-posted",
+            RaceClass::Unknown => "unknown",
+        })
     }
 }
 
@@ -59,20 +78,31 @@ pub struct Race {
     ghost held: { later < 512 },
 }
 
-impl Race {
-    /// The race record of a row; a row that is none makes none.
-    pub fn from_row(row: RaceRow) -> Option<Race>
-        ensures { MatchOption result (Passes row → ⊥) (λ x. Passes row × (x.earlier ≡ row.earlier) × (x.later ≡ row.later) × (race_number x.class ≡ row.class)) }
-    {
-        let class = RaceClass::new(row.class)?;
+/// A row that makes no race record.
+#[derive(Clone, Copy, PartialEq, Eq, Debug)]
+pub struct NotARace;
+
+impl From<NotAClass> for NotARace {
+    fn from(_: NotAClass) -> Self {
+        NotARace
+    }
+}
+
+impl TryFrom<RaceRow> for Race {
+    type Error = NotARace;
+
+    ghost try_from_gives = { λ row r. MatchResult r (λ x. Passes row × (x.earlier ≡ row.earlier) × (x.later ≡ row.later) × (race_number x.class ≡ row.class)) (λ _. Passes row → ⊥) };
+
+    fn try_from(row: RaceRow) -> Result<Self, NotARace> {
+        let class = RaceClass::try_from(row.class)?;
         if row.earlier < row.later && row.later < 512 {
-            Some(Race {
+            Ok(Race {
                 earlier: row.earlier,
                 later: row.later,
                 class,
             })
         } else {
-            None
+            Err(NotARace)
         }
     }
 }
