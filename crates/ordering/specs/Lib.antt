@@ -1,1 +1,2 @@
 pub mod Directly
+pub mod Agrees

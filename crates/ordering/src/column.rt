@@ -14,9 +14,10 @@ ghost use Rattle.tables.specs.Matches.{Matches};
 ghost use Rattle.tables.specs.Records.{thread_at};
 ghost use Rattle.index.specs.Indexed.{Indexed, member_at};
 ghost use Rattle.rules.specs.Columns.{pairs_in, Right};
+ghost use Rattle.ordering.specs.Agrees.{Agrees};
 ghost use Rattle.ordering.specs.Directly.{BegunAfter, TaskBefore, Directly};
 
-use crate::handover::add_handovers;
+use crate::past::Past;
 use columns::closing::close;
 use columns::column::Column;
 use dispatch::discipline::Discipline;
@@ -47,80 +48,47 @@ fn add_task_order(index: &Index, task: Option<u16>, column: &mut Column)
     }
 }
 
-/// Adds what post order, queue order and run to completion put before the begin of a task.
-fn add_begin<D: Discipline>(
-    discipline: &D,
-    rows: &[Row],
-    columns: &[Column],
-    tables: &Tables,
-    index: &Index,
-    thread: Thread,
-    task: Task,
-    column: &mut Column,
-)
-    requires { length columns.now ≡ length rows.now }
-    ensures { (initial : ℕ → Bool) → Matches initial rows.now tables.now → Indexed rows.now index.now → AllInRange rows.now → length rows.now ≤ 512 → (i : ℕ) → (has column.new i ≡ true) ↔ ((has column.old i ≡ true) ⊎ BegunAfter (D.Discipline.precedence discipline.now) (pairs_in columns.now) rows.now thread.number task.number i) }
-{
-    if let Some(posting) = tables.posting(task.number()) {
-        let later = posting.position as usize;
-        if later < rows.len() {
-            add_handovers(
-                discipline, rows, columns, tables, index, thread, later, column,
-            );
+impl<D: Discipline> Past<'_, D> {
+    /// Adds what post order, queue order and run to completion put before the begin of a task.
+    fn add_begin(&self, thread: Thread, task: Task, column: &mut Column)
+        requires { length self.now.columns.now ≡ length self.now.rows.now }
+        ensures { (initial : ℕ → Bool) → Agrees initial self.now → AllInRange self.now.rows.now → (i : ℕ) → (has column.new i ≡ true) ↔ ((has column.old i ≡ true) ⊎ BegunAfter (D.Discipline.precedence self.now.discipline.now) (pairs_in self.now.columns.now) self.now.rows.now thread.number task.number i) }
+    {
+        if let Some(posting) = self.tables.posting(task.number()) {
+            let later = posting.position as usize;
+            if later < self.rows.len() {
+                self.add_handovers(thread, later, column);
+            }
         }
     }
-}
 
-/// What every rule but the two transitive ones puts before the operation.
-fn directly<D: Discipline>(
-    discipline: &D,
-    rows: &[Row],
-    columns: &[Column],
-    tables: &Tables,
-    index: &Index,
-    operation: Operation,
-    task: Option<u16>,
-) -> Column
-    requires { length columns.now ≡ length rows.now }
-    ensures { (initial : ℕ → Bool) → Matches initial rows.now tables.now → Indexed rows.now index.now → AllInRange rows.now → length rows.now ≤ 512 → ((p : ℕ) → is_of task p ≡ member_at rows.now p (operation_row operation)) → ((p : ℕ) → is_of task p ≡ true → p < 512) → (i : ℕ) → (has result i ≡ true) ↔ ((i < length rows.now) × Directly (D.Discipline.precedence discipline.now) (pairs_in columns.now) rows.now (operation_row operation) i) }
-{
-    let thread = operation.thread();
-    let action = operation.action();
-    let mut column = index.program_order(thread);
-    add_task_order(index, task, &mut column);
-    index.add_kinds(thread, action, &mut column);
-    if let Action::Begin(task) = action {
-        add_begin(
-            discipline,
-            rows,
-            columns,
-            tables,
-            index,
-            thread,
-            task,
-            &mut column,
-        );
+    /// What every rule but the two transitive ones puts before the operation.
+    fn directly(&self, operation: Operation, task: Option<u16>) -> Column
+        requires { length self.now.columns.now ≡ length self.now.rows.now }
+        ensures { (initial : ℕ → Bool) → Agrees initial self.now → AllInRange self.now.rows.now → ((p : ℕ) → is_of task p ≡ member_at self.now.rows.now p (operation_row operation)) → ((p : ℕ) → is_of task p ≡ true → p < 512) → (i : ℕ) → (has result i ≡ true) ↔ ((i < length self.now.rows.now) × Directly (D.Discipline.precedence self.now.discipline.now) (pairs_in self.now.columns.now) self.now.rows.now (operation_row operation) i) }
+    {
+        let thread = operation.thread();
+        let action = operation.action();
+        let mut column = self.index.program_order(thread);
+        add_task_order(self.index, task, &mut column);
+        self.index.add_kinds(thread, action, &mut column);
+        if let Action::Begin(task) = action {
+            self.add_begin(thread, task, &mut column);
+        }
+        column
     }
-    column
-}
 
-/// What is before an accepted operation that belongs to the task; nothing where rows and columns are not as many.
-pub fn predecessors<D: Discipline>(
-    discipline: &D,
-    rows: &[Row],
-    columns: &[Column],
-    tables: &Tables,
-    index: &Index,
-    operation: Operation,
-    task: Option<u16>,
-) -> Column
-    ensures before { (initial : ℕ → Bool) → Matches initial rows.now tables.now → Indexed rows.now index.now → FairTables initial (rows.now ++ operation_row operation ∷ []) → length rows.now ≤ 512 → length columns.now ≡ length rows.now → Right (D.Discipline.precedence discipline.now) rows.now columns.now → ((p : ℕ) → is_of task p ≡ member_at rows.now p (operation_row operation)) → (i : ℕ) → (has result i ≡ true) ↔ Before (D.Discipline.precedence discipline.now) (rows.now ++ operation_row operation ∷ []) i (length rows.now) }
-    ensures apart { (length columns.now ≢ length rows.now) → (i : ℕ) → has result i ≡ false }
-{
-    if columns.len() != rows.len() {
-        return Column::empty();
+    /// What is before an accepted operation that belongs to the task; nothing where rows and columns are not as many.
+    pub fn predecessors(&self, operation: Operation, task: Option<u16>) -> Column
+        ensures before { (initial : ℕ → Bool) → Agrees initial self.now → FairTables initial (self.now.rows.now ++ operation_row operation ∷ []) → length self.now.columns.now ≡ length self.now.rows.now → Right (D.Discipline.precedence self.now.discipline.now) self.now.rows.now self.now.columns.now → ((p : ℕ) → is_of task p ≡ member_at self.now.rows.now p (operation_row operation)) → (i : ℕ) → (has result i ≡ true) ↔ Before (D.Discipline.precedence self.now.discipline.now) (self.now.rows.now ++ operation_row operation ∷ []) i (length self.now.rows.now) }
+        ensures apart { (length self.now.columns.now ≢ length self.now.rows.now) → (i : ℕ) → has result i ≡ false }
+    {
+        if self.columns.len() != self.rows.len() {
+            return Column::empty();
+        }
+        let mut column = self.directly(operation, task);
+        let own = self.index.own(operation.thread());
+        close(self.columns, own, &mut column);
+        column
     }
-    let mut column = directly(discipline, rows, columns, tables, index, operation, task);
-    close(columns, index.own(operation.thread()), &mut column);
-    column
 }

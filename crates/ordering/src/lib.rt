@@ -3,3 +3,4 @@
 
 pub mod column;
 mod handover;
+pub mod past;
