@@ -1,10 +1,10 @@
 -- What a lawful row gives.
-use Rattle.std.proofs.Common.{◌≡◌, ℕ, zero, suc, ◌^◌, ◌<◌, ◌≤◌, Bool, true, false, not, ◌&&◌, eqb, ltb, List, [], ◌∷◌, is_some, Some, None, Option, sym, refl, ap, arith, ltb-false, ltb-true, eqb-true}
+use Rattle.std.proofs.Common.{◌≡◌, ℕ, zero, suc, ◌^◌, ◌<◌, Bool, true, false, not, ◌&&◌, ltb, List, [], ◌∷◌, is_some, Some, None, Option, sym, refl, ap, arith, ltb-false, ltb-true, eqb-true}
 use borrow.Author.Tests.{not-false, clash}
 use Rattle.recording.specs.declared.row.Row.{Row}
-use Rattle.recording.specs.Codes.{known, has_target, has_task, has_lock, has_item}
+use Rattle.recording.specs.Codes.{has_target, has_task, has_lock}
 use Rattle.recording.specs.Faults.{first}
-use Rattle.recording.specs.Lawful.{lawful, fault_in, or_else, number_tests, zero_tests, marks_limit, may_delay}
+use Rattle.recording.specs.Lawful.{lawful, fault_in, or_else, number_tests, zero_tests}
 
 split : (x y : Bool) → (x && y) ≡ true → (x ≡ true) × (y ≡ true)
 split true y h = (refl, h)
@@ -36,10 +36,6 @@ unless : (x y : Bool) → (x && y) ≡ false → x ≡ true → y ≡ false
 unless true y e h = e
 unless false y e h = absurd (clash h)
 
--- a field that the code lacks
-zero_where : (b : Bool) (n : ℕ) → (not b && not (eqb n 0)) ≡ false → b ≡ false → n ≡ 0
-zero_where b n e h = eqb-true _ _ (not-false _ (unless (not b) _ e (ap not h)))
-
 neither : {F : Type 0} (a b : Option F) → or_else a b ≡ None → (a ≡ None) × (b ≡ None)
 neither None b e = (refl, e)
 neither (Some f) b e = never f e
@@ -69,9 +65,6 @@ module _ (r : Row) (h : lawful r ≡ true) where
   zero_test : (n : ℕ) → test n (zero_tests r) ≡ false
   zero_test n = passed n (zero_tests r) zeros
 
-  pub known_code : known r.code ≡ true
-  known_code = not-false (known r.code) (number_test 0)
-
   pub thread_fits : r.thread < 64
   thread_fits = let e = ltb-false 63 r.thread (number_test 1) in omega arith
 
@@ -84,17 +77,5 @@ module _ (r : Row) (h : lawful r ≡ true) where
   pub lock_fits : has_lock r.code ≡ true → r.item < 64
   lock_fits t = let e = ltb-false 63 r.item (unless (has_lock r.code) _ (number_test 4) t) in omega arith
 
-  pub no_item : has_item r.code ≡ false → r.item ≡ 0
-  no_item t = zero_where (has_item r.code) r.item (zero_test 0) t
-
-  pub no_target : has_target r.code ≡ false → r.target ≡ 0
-  no_target t = zero_where (has_target r.code) r.target (zero_test 1) t
-
-  pub marks_fit : r.marks ≤ marks_limit r.code
-  marks_fit = ltb-false (marks_limit r.code) r.marks (zero_test 2)
-
   pub no_reserved : r.reserved ≡ 0
   no_reserved = eqb-true r.reserved 0 (not-false _ (zero_test 3))
-
-  pub no_delay : may_delay r ≡ false → r.delay ≡ 0
-  no_delay t = zero_where (may_delay r) r.delay (zero_test 4) t

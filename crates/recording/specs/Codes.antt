@@ -1,5 +1,22 @@
 -- The fourteen operations by their codes, and which fields each has.
 use Rattle.std.specs.Prelude.{ℕ, Bool, ◌&&◌, ◌||◌, ◌==◌, nat_le}
+use Rattle.recording.specs.declared.code.Code.{Code}
+use Rattle.recording.specs.declared.code.Code.TheVariants.{
+  ThreadInit,
+  ThreadExit,
+  Fork,
+  Join,
+  AttachQ,
+  LoopOnQ,
+  Post,
+  Begin,
+  End,
+  Acquire,
+  Release,
+  Enable,
+  Read,
+  Write,
+}
 
 abbrev pub threadinit : ℕ
 threadinit = 1
@@ -42,6 +59,22 @@ read = 13
 
 abbrev pub write : ℕ
 write = 14
+
+abbrev pub code_number : Code → ℕ
+code_number ThreadInit = threadinit
+code_number ThreadExit = threadexit
+code_number Fork = fork
+code_number Join = join
+code_number AttachQ = attach_q
+code_number LoopOnQ = loop_on_q
+code_number Post = post
+code_number Begin = begin
+code_number End = end
+code_number Acquire = acquire
+code_number Release = release
+code_number Enable = enable
+code_number Read = read
+code_number Write = write
 
 abbrev pub known : ℕ → Bool
 known c = nat_le threadinit c && nat_le c write

@@ -1,63 +1,53 @@
 //! What a record is refused for.
 ghost use Rattle.std.specs.Prelude.{◌≡◌, true, Some, None, MatchResult};
+ghost use Rattle.recording.specs.Codes.{code_number};
 ghost use Rattle.recording.specs.Faults.{first};
 ghost use Rattle.recording.specs.Lawful.{fault_in, number_tests, zero_tests, marks_limit, may_delay};
 
-use crate::code::{POST, has_item, has_lock, has_target, has_task, is_known};
+use crate::code::Code;
 use crate::faults::record::RecordFault;
 use crate::row::Row;
 
-/// Threads, tasks and locks that the record has are in range.
-fn judge_numbers(row: Row) -> Result<(), RecordFault>
-    ensures { MatchResult result (λ _. first (number_tests row) ≡ None) (λ f. first (number_tests row) ≡ Some f) }
+/// The code is known, and threads, tasks and locks that the record has are in range.
+fn judge_numbers(row: Row) -> Result<Code, RecordFault>
+    ensures { MatchResult result (λ code. (code_number code ≡ row.code) × (first (number_tests row) ≡ None)) (λ f. first (number_tests row) ≡ Some f) }
 {
-    if !is_known(row.code) {
-        return Err(RecordFault::UnknownCode);
-    }
+    let code = Code::try_from(row.code)?;
     if row.thread > 63 {
         return Err(RecordFault::ThreadTooLarge);
     }
-    if has_target(row.code) && row.target > 63 {
+    if code.has_target() && row.target > 63 {
         return Err(RecordFault::TargetTooLarge);
     }
-    if has_task(row.code) && row.item > 511 {
+    if code.has_task() && row.item > 511 {
         return Err(RecordFault::TaskTooLarge);
     }
-    if has_lock(row.code) && row.item > 63 {
+    if code.has_lock() && row.item > 63 {
         return Err(RecordFault::LockTooLarge);
     }
-    Ok(())
-}
-
-fn marks_limit(code: u8) -> u8
-    ensures { result ≡ marks_limit code }
-{
-    if code == POST { 3 } else { 0 }
-}
-
-fn may_delay(row: Row) -> bool
-    ensures { result ≡ may_delay row }
-{
-    row.code == POST && row.marks >= 2
+    Ok(code)
 }
 
 /// What must be zero is.
-fn judge_zeros(row: Row) -> Result<(), RecordFault>
+fn judge_zeros(code: Code, row: Row) -> Result<(), RecordFault>
+    requires { code_number code ≡ row.code }
     ensures { MatchResult result (λ _. first (zero_tests row) ≡ None) (λ f. first (zero_tests row) ≡ Some f) }
 {
-    if !has_item(row.code) && row.item != 0 {
+    let marks_limit = if code == Code::Post { 3 } else { 0 };
+    let may_delay = code == Code::Post && row.marks >= 2;
+    if !code.has_item() && row.item != 0 {
         return Err(RecordFault::ItemNotZero);
     }
-    if !has_target(row.code) && row.target != 0 {
+    if !code.has_target() && row.target != 0 {
         return Err(RecordFault::TargetNotZero);
     }
-    if row.marks > marks_limit(row.code) {
+    if row.marks > marks_limit {
         return Err(RecordFault::MarksWrong);
     }
     if row.reserved != 0 {
         return Err(RecordFault::ReservedNotZero);
     }
-    if !may_delay(row) && row.delay != 0 {
+    if !may_delay && row.delay != 0 {
         return Err(RecordFault::DelayNotZero);
     }
     Ok(())
@@ -67,6 +57,6 @@ fn judge_zeros(row: Row) -> Result<(), RecordFault>
 pub(crate) fn judge(row: Row) -> Result<(), RecordFault>
     ensures { MatchResult result (λ _. fault_in row ≡ None) (λ f. fault_in row ≡ Some f) }
 {
-    judge_numbers(row)?;
-    judge_zeros(row)
+    let code = judge_numbers(row)?;
+    judge_zeros(code, row)
 }

@@ -13,17 +13,14 @@ pub struct Marks {
     pub delay: Option<u32>,
 }
 
-impl Marks {
-    /// The marks of a post's row.
-    pub fn in_row(row: Row) -> Marks
-        ensures { result ≡ marks_in row }
-    {
-        let environment = row.marks % 2 == 1;
-        let delay = if row.marks >= 2 {
-            Some(row.delay)
-        } else {
-            None
-        };
-        Marks { environment, delay }
+/// The marks of a post's row.
+impl From<Row> for Marks {
+    ghost from_gives = { λ row m. m ≡ marks_in row };
+
+    fn from(row: Row) -> Marks {
+        Marks {
+            environment: row.marks % 2 == 1,
+            delay: (row.marks >= 2).then_some(row.delay),
+        }
     }
 }

@@ -1,10 +1,11 @@
 //! Operations made from rows, and what they say.
 ghost use Rattle.std.specs.Prelude.{◌≡◌, ◌<◌, ◌≤◌, true, Some, None, MatchResult};
+ghost use Rattle.recording.specs.Codes.{code_number};
 ghost use Rattle.recording.specs.Lawful.{fault_in, lawful as lawfulRow};
 ghost use Rattle.recording.specs.Rows.{row_of};
 
 use crate::action::Action;
-use crate::code;
+use crate::code::Code;
 use crate::faults::record::RecordFault;
 use crate::judge::judge;
 use crate::marks::Marks;
@@ -12,15 +13,19 @@ use crate::numbers::{Location, Lock, Task, Thread};
 use crate::operation::Operation;
 use crate::row::Row;
 
-impl Operation {
-    /// The operation of a row, or the fault that makes it none.
-    pub fn from_row(row: Row) -> Result<Operation, RecordFault>
-        ensures { MatchResult result (λ o. (lawfulRow row ≡ true) × (o.row ≡ row)) (λ f. fault_in row ≡ Some f) }
-    {
+/// The operation of a row, or the fault that makes it none.
+impl TryFrom<Row> for Operation {
+    type Error = RecordFault;
+
+    ghost try_from_gives = { λ row r. MatchResult r (λ o. (lawfulRow row ≡ true) × (o.row ≡ row)) (λ f. fault_in row ≡ Some f) };
+
+    fn try_from(row: Row) -> Result<Operation, RecordFault> {
         judge(row)?;
         Ok(Operation { row })
     }
+}
 
+impl Operation {
     /// The operation's row.
     pub fn row(self) -> Row
         ensures { result ≡ self.row }
@@ -28,11 +33,21 @@ impl Operation {
         self.row
     }
 
+    /// Which operation it is.
+    pub fn code(self) -> Code
+        ensures { code_number result ≡ self.row.code }
+    {
+        match Code::try_from(self.row.code) {
+            Ok(code) => code,
+            Err(_) => unreachable!(),
+        }
+    }
+
     /// The acting thread.
     pub fn thread(self) -> Thread
         ensures { result.number ≡ self.row.thread }
     {
-        Thread::of(self.row.thread)
+        Thread::of(u16::from(self.row.thread))
     }
 
     /// What the acting thread does: the one action that has this row.
@@ -40,32 +55,25 @@ impl Operation {
         ensures { row_of self.row.thread result ≡ self.row }
     {
         let row = self.row;
-        match row.code {
-            code::THREADINIT => Action::ThreadInit,
-            code::THREADEXIT => Action::ThreadExit,
-            code::FORK => Action::Fork(Thread::of(row.target)),
-            code::JOIN => Action::Join(Thread::of(row.target)),
-            code::ATTACHQ => Action::AttachQ,
-            code::LOOPONQ => Action::LoopOnQ,
-            code::POST => Action::Post(
+        match self.code() {
+            Code::ThreadInit => Action::ThreadInit,
+            Code::ThreadExit => Action::ThreadExit,
+            Code::Fork => Action::Fork(Thread::of(u16::from(row.target))),
+            Code::Join => Action::Join(Thread::of(u16::from(row.target))),
+            Code::AttachQ => Action::AttachQ,
+            Code::LoopOnQ => Action::LoopOnQ,
+            Code::Post => Action::Post(
                 Task::of(row.item),
-                Thread::of(row.target),
-                Marks::in_row(row),
+                Thread::of(u16::from(row.target)),
+                Marks::from(row),
             ),
-            code::BEGIN => Action::Begin(Task::of(row.item)),
-            code::END => Action::End(Task::of(row.item)),
-            code::ACQUIRE => Action::Acquire(lock(row)),
-            code::RELEASE => Action::Release(lock(row)),
-            code::ENABLE => Action::Enable(Task::of(row.item)),
-            code::READ => Action::Read(Location::new(row.item)),
-            _ => Action::Write(Location::new(row.item)),
+            Code::Begin => Action::Begin(Task::of(row.item)),
+            Code::End => Action::End(Task::of(row.item)),
+            Code::Acquire => Action::Acquire(Lock::of(row.item)),
+            Code::Release => Action::Release(Lock::of(row.item)),
+            Code::Enable => Action::Enable(Task::of(row.item)),
+            Code::Read => Action::Read(Location::new(row.item)),
+            Code::Write => Action::Write(Location::new(row.item)),
         }
     }
-}
-
-fn lock(row: Row) -> Lock
-    requires { row.item < 64 }
-    ensures { result.number ≡ row.item }
-{
-    Lock::of(row.item as u8)
 }

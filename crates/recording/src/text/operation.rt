@@ -1,9 +1,10 @@
 //! Operations as text.
 ghost use Rattle.std.specs.Prelude.{◌≡◌, ◌<◌, Some};
+ghost use Rattle.recording.specs.Codes.{code_number};
 ghost use Rattle.recording.specs.Rows.{operation_row};
-ghost use Rattle.recording.specs.Texts.{marks_text, operation_name, operation_text};
+ghost use Rattle.recording.specs.Texts.{further, marks_text, operation_name, operation_text};
 
-use crate::code::{has_item, has_target};
+use crate::code::Code;
 use crate::marks::Marks;
 use crate::operation::Operation;
 use std::fmt;
@@ -21,30 +22,46 @@ impl fmt::Display for Marks {
     }
 }
 
-/// The names of the operations, by their codes.
-const NAMES: [&str; 15] = [
-    "",
-    "threadinit",
-    "threadexit",
-    "fork",
-    "join",
-    "attachQ",
-    "loopOnQ",
-    "post",
-    "begin",
-    "end",
-    "acquire",
-    "release",
-    "enable",
-    "read",
-    "write",
-];
+impl fmt::Display for Code {
+    ghost output = { λ c. Some (operation_name (code_number c)) };
 
-fn name(code: u8) -> &'static str
-    requires { code < 15 }
-    ensures { result.now ≡ operation_name code }
-{
-    NAMES[code as usize]
+    fn fmt<W: fmt::Write>(&self, f: &mut fmt::Formatter<W>) -> fmt::Result {
+        match self {
+            Code::ThreadInit => write!(f, "threadinit"),
+            Code::ThreadExit => write!(f, "threadexit"),
+            Code::Fork => write!(f, "fork"),
+            Code::Join => write!(f, "join"),
+            Code::AttachQ => write!(f, "attachQ"),
+            Code::LoopOnQ => write!(f, "loopOnQ"),
+            Code::Post => write!(f, "post"),
+            Code::Begin => write!(f, "begin"),
+            Code::End => write!(f, "end"),
+            Code::Acquire => write!(f, "acquire"),
+            Code::Release => write!(f, "release"),
+            Code::Enable => write!(f, "enable"),
+            Code::Read => write!(f, "read"),
+            Code::Write => write!(f, "write"),
+        }
+    }
+}
+
+/// A number behind a comma, where the operation has it.
+#[derive(Drop)]
+struct Further {
+    has: bool,
+    number: u16,
+}
+
+impl fmt::Display for Further {
+    ghost output = { λ x. Some (further x.has x.number) };
+
+    fn fmt<W: fmt::Write>(&self, f: &mut fmt::Formatter<W>) -> fmt::Result {
+        if self.has {
+            let number = self.number;
+            write!(f, ",{number}")?;
+        }
+        Ok(())
+    }
 }
 
 impl fmt::Display for Operation {
@@ -52,18 +69,17 @@ impl fmt::Display for Operation {
 
     fn fmt<W: fmt::Write>(&self, f: &mut fmt::Formatter<W>) -> fmt::Result {
         let row = self.row();
-        let name = name(row.code);
+        let code = self.code();
         let thread = row.thread;
-        write!(f, "{name}({thread}")?;
-        if has_item(row.code) {
-            let item = row.item;
-            write!(f, ",{item}")?;
-        }
-        if has_target(row.code) {
-            let target = row.target;
-            write!(f, ",{target}")?;
-        }
-        let marks = Marks::in_row(row);
-        write!(f, "{marks})")
+        let item = Further {
+            has: code.has_item(),
+            number: row.item,
+        };
+        let target = Further {
+            has: code.has_target(),
+            number: u16::from(row.target),
+        };
+        let marks = Marks::from(row);
+        write!(f, "{code}({thread}{item}{target}{marks})")
     }
 }
