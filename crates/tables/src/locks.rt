@@ -1,41 +1,15 @@
 //! The holder of each lock.
 ghost use Rattle.std.specs.Prelude.{◌≡◌, map};
 ghost use Rattle.recording.specs.Rows.{row_of};
-ghost use Rattle.rules.specs.Options.{is_of};
-ghost use Rattle.tables.specs.Records.{is_other};
 ghost use Rattle.tables.specs.Steps.{freed, relocked};
 
 use recording::action::Action;
-
-/// Whether this thread holds the lock.
-pub(crate) fn is_held_by(holder: Option<u8>, thread: u8) -> bool
-    ensures { result ≡ is_of holder thread }
-{
-    match holder {
-        Some(other) => other == thread,
-        None => false,
-    }
-}
-
-/// Whether a thread other than this one holds the lock.
-pub(crate) fn is_held_by_another(holder: Option<u8>, thread: u8) -> bool
-    ensures { result ≡ is_other holder thread }
-{
-    match holder {
-        Some(other) => other != thread,
-        None => false,
-    }
-}
 
 /// The holder of a lock after a thread has finished.
 fn freed_by(thread: u8, holder: Option<u8>) -> Option<u8>
     ensures { result ≡ freed thread holder }
 {
-    if is_held_by(holder, thread) {
-        None
-    } else {
-        holder
-    }
+    holder.filter(|other| *other != thread)
 }
 
 /// Frees the locks of a thread.

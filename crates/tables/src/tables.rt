@@ -1,20 +1,21 @@
 //! The tables of threads, locks and tasks.
-ghost use Rattle.std.specs.Prelude.{◌≡◌, ℕ, ◌<◌, ◌≤◌, Bool, ◌&&◌, ltb, List, [], ◌∷◌, ◌++◌, length, if◌then◌else◌, None, nat_lt};
+ghost use Rattle.std.specs.Prelude.{◌≡◌, ℕ, ◌<◌, ◌≤◌, Bool, ◌&&◌, ltb, List, [], ◌∷◌, ◌++◌, length, if◌then◌else◌, Some, None, nat_lt, MatchResult};
 ghost use Rattle.recording.specs.Rows.{row_of};
 ghost use Rattle.recording.specs.declared.row.Row.{Row};
 ghost use Rattle.recording.specs.Masks.{bit};
 ghost use Rattle.tables.specs.Matches.{Matches, table_refusal};
-ghost use Rattle.tables.specs.Records.{thread_at, task_at, unstarted, waits_at};
+ghost use Rattle.tables.specs.Records.{thread_at, holder_at, task_at, unstarted, waits_at};
 ghost use Rattle.tables.specs.Steps.{changed, TakenIn};
 
 use crate::tasks::{Posting, TaskRecord};
 use crate::threads::{Stage, ThreadRecord};
 use crate::{locks, tasks};
 use recording::action::Action;
-use recording::numbers::Thread;
+use recording::numbers::{Lock, Task, Thread};
 use recording::operation::Operation;
 use recording::row::Row;
 use rules::faults::StateFault;
+use std::array;
 
 mod judging;
 
@@ -42,9 +43,27 @@ impl Tables {
         }
     }
 
+    fn thread(&self, thread: Thread) -> ThreadRecord
+        ensures { result ≡ thread_at self.now.threads thread.number }
+    {
+        self.threads[thread.number() as usize]
+    }
+
+    fn holder(&self, lock: Lock) -> Option<u8>
+        ensures { result ≡ holder_at self.now.holders lock.number }
+    {
+        self.holders[lock.number() as usize]
+    }
+
+    fn task(&self, task: Task) -> TaskRecord
+        ensures { result ≡ task_at self.now.tasks task.number }
+    {
+        self.tasks[task.number() as usize]
+    }
+
     /// Why the operation is turned away, whatever the discipline and however many are held.
-    pub fn judge(&self, operation: Operation) -> Option<StateFault>
-        ensures { (initial : ℕ → Bool) (held : List Row) → Matches initial held self.now → result ≡ table_refusal initial held operation.row }
+    pub fn judge(&self, operation: Operation) -> Result<(), StateFault>
+        ensures { (initial : ℕ → Bool) (held : List Row) → Matches initial held self.now → MatchResult result (λ _. table_refusal initial held operation.row ≡ None) (λ f. table_refusal initial held operation.row ≡ Some f) }
     {
         self.judge_action(operation.thread(), operation.action())
     }
@@ -66,32 +85,32 @@ impl Tables {
     pub fn current(&self, thread: Thread) -> Option<u16>
         ensures { result ≡ (thread_at self.now.threads thread.number).current }
     {
-        self.threads[thread.number() as usize].current
+        self.thread(thread).current
     }
 
     /// Whether the thread loops on its queue.
     pub fn is_looping(&self, thread: Thread) -> bool
         ensures { result ≡ (thread_at self.now.threads thread.number).looping }
     {
-        self.threads[thread.number() as usize].looping
+        self.thread(thread).looping
     }
 
     /// Whether the task with this number waits at the thread; there are no tasks from 512 on.
     pub fn waits(&self, thread: Thread, task: u16) -> bool
         ensures { result ≡ (nat_lt task 512 && waits_at (task_at self.now.tasks task) thread.number) }
     {
-        task < 512 && self.tasks[task as usize].waits_at(thread.number())
+        self.tasks
+            .get(task as usize)
+            .is_some_and(|record| record.waits_at(thread.number()))
     }
 
     /// The post of the task with this number; there are no tasks from 512 on.
     pub fn posting(&self, task: u16) -> Option<Posting>
         ensures { result ≡ (if ltb task 512 then (task_at self.now.tasks task).posting else None) }
     {
-        if task < 512 {
-            self.tasks[task as usize].posting
-        } else {
-            None
-        }
+        self.tasks
+            .get(task as usize)
+            .and_then(|record| record.posting)
     }
 }
 
@@ -117,11 +136,7 @@ fn first_threads(mask: u64) -> [ThreadRecord; 64]
     ensures whole { length result ≡ 64 }
     ensures each { (t : ℕ) → t < 64 → thread_at result t ≡ unstarted (bit mask t) }
 {
-    let mut threads = [first_thread(0, 0); 64];
-    for n in 0..64 {
-        threads[n] = first_thread(mask, n);
-    }
-    threads
+    array::from_fn(|n| first_thread(mask, n))
 }
 
 /// The one thread whose record an operation changes.

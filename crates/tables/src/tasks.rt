@@ -24,14 +24,10 @@ impl Posting {
     fn at(position: usize, target: u8) -> Option<Posting>
         ensures { result ≡ posted_at position target }
     {
-        if position < 512 {
-            Some(Posting {
-                position: position as u16,
-                target,
-            })
-        } else {
-            None
-        }
+        (position < 512).then(|| Posting {
+            position: position as u16,
+            target,
+        })
     }
 }
 
@@ -40,10 +36,7 @@ impl TaskRecord {
     pub(crate) fn waits_at(self, thread: u8) -> bool
         ensures { result ≡ waits_at self thread }
     {
-        match self.posting {
-            Some(posting) => posting.target == thread && !self.begun,
-            None => false,
-        }
+        !self.begun && self.posting.is_some_and(|posting| posting.target == thread)
     }
 }
 

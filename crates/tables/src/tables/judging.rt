@@ -1,73 +1,51 @@
 //! What the tables turn an operation away for.
-ghost use Rattle.std.specs.Prelude.{◌≡◌, if◌then◌else◌, Some, None, nat_eq};
+ghost use Rattle.std.specs.Prelude.{◌≡◌, true, false, if◌then◌else◌, Some, None, nat_eq, MatchResult};
 ghost use Rattle.recording.specs.Codes.{threadinit};
 ghost use Rattle.recording.specs.Rows.{row_of};
 ghost use Rattle.tables.specs.Judging.{begin_fault, post_fault, verdict};
-ghost use Rattle.tables.specs.Records.{is_created, is_running, thread_at, holder_at, task_at};
+ghost use Rattle.tables.specs.Records.{is_created, is_running};
 
-use crate::locks::{is_held_by, is_held_by_another};
 use crate::tables::Tables;
 use crate::tasks::TaskRecord;
 use crate::threads::{Stage, ThreadRecord};
 use recording::action::Action;
-use recording::numbers::{Lock, Task, Thread};
+use recording::numbers::Thread;
 use rules::faults::StateFault;
 
 impl Tables {
-    fn thread(&self, thread: Thread) -> ThreadRecord
-        ensures { result ≡ thread_at self.now.threads thread.number }
-    {
-        self.threads[thread.number() as usize]
-    }
-
-    fn holder(&self, lock: Lock) -> Option<u8>
-        ensures { result ≡ holder_at self.now.holders lock.number }
-    {
-        self.holders[lock.number() as usize]
-    }
-
-    fn task(&self, task: Task) -> TaskRecord
-        ensures { result ≡ task_at self.now.tasks task.number }
-    {
-        self.tasks[task.number() as usize]
-    }
-
-    pub(crate) fn judge_action(&self, thread: Thread, action: Action) -> Option<StateFault>
-        ensures { result ≡ verdict self.now (row_of thread.number action) }
+    pub(crate) fn judge_action(&self, thread: Thread, action: Action) -> Result<(), StateFault>
+        ensures { MatchResult result (λ _. verdict self.now (row_of thread.number action) ≡ None) (λ f. verdict self.now (row_of thread.number action) ≡ Some f) }
     {
         let own = self.thread(thread);
-        if !is_ready(own.stage, action) {
-            return Some(StateFault::ThreadNotReady);
-        }
+        ensure(is_ready(own.stage, action), StateFault::ThreadNotReady)?;
         match action {
-            Action::Fork(target) => refuse(
-                !self.thread(target).stage.is_unknown(),
+            Action::Fork(target) => ensure(
+                self.thread(target).stage == Stage::Unknown,
                 StateFault::WrongTarget,
             ),
-            Action::Join(target) => refuse(
-                !self.thread(target).stage.is_finished(),
+            Action::Join(target) => ensure(
+                self.thread(target).stage == Stage::Finished,
                 StateFault::WrongTarget,
             ),
-            Action::AttachQ => refuse(own.queue, StateFault::WrongQueue),
-            Action::LoopOnQ => refuse(!own.queue || own.looping, StateFault::WrongQueue),
+            Action::AttachQ => ensure(!own.queue, StateFault::WrongQueue),
+            Action::LoopOnQ => ensure(own.queue && !own.looping, StateFault::WrongQueue),
             Action::Post(task, target, _) => judge_post(self.thread(target), self.task(task)),
             Action::Begin(task) => judge_begin(own, thread, self.task(task)),
-            Action::End(task) => refuse(!own.is_current(task), StateFault::OutOfTurn),
-            Action::Acquire(lock) => {
-                refuse(
-                    is_held_by_another(self.holder(lock), thread.number()),
-                    StateFault::WrongLock,
-                )
-            }
-            Action::Release(lock) => refuse(
-                !is_held_by(self.holder(lock), thread.number()),
+            Action::End(task) => ensure(own.current == Some(task.number()), StateFault::OutOfTurn),
+            Action::Acquire(lock) => ensure(
+                self.holder(lock)
+                    .is_none_or(|holder| holder == thread.number()),
+                StateFault::WrongLock,
+            ),
+            Action::Release(lock) => ensure(
+                self.holder(lock) == Some(thread.number()),
                 StateFault::WrongLock,
             ),
             Action::ThreadInit
             | Action::ThreadExit
             | Action::Enable(_)
             | Action::Read(_)
-            | Action::Write(_) => None,
+            | Action::Write(_) => Ok(()),
         }
     }
 }
@@ -77,34 +55,34 @@ fn is_ready(stage: Stage, action: Action) -> bool
     ensures { result ≡ (if nat_eq (row_of 0 action).code threadinit then is_created stage else is_running stage) }
 {
     match action {
-        Action::ThreadInit => stage.is_created(),
-        _ => stage.is_running(),
+        Action::ThreadInit => stage == Stage::Created,
+        _ => stage == Stage::Running,
     }
 }
 
-fn refuse(test: bool, fault: StateFault) -> Option<StateFault>
-    ensures { result ≡ (if test then Some fault else None) }
+/// Refuses where the test fails.
+fn ensure(test: bool, fault: StateFault) -> Result<(), StateFault>
+    ensures { MatchResult result (λ _. test ≡ true) (λ f. (test ≡ false) × (f ≡ fault)) }
 {
-    if test { Some(fault) } else { None }
+    if test { Ok(()) } else { Err(fault) }
 }
 
-fn judge_post(target: ThreadRecord, task: TaskRecord) -> Option<StateFault>
-    ensures { result ≡ post_fault target task }
+fn judge_post(target: ThreadRecord, task: TaskRecord) -> Result<(), StateFault>
+    ensures { MatchResult result (λ _. post_fault target task ≡ None) (λ f. post_fault target task ≡ Some f) }
 {
-    if !(target.stage.is_running() && target.queue) {
-        return Some(StateFault::WrongTarget);
-    }
-    refuse(task.posting.is_some(), StateFault::OutOfTurn)
+    ensure(
+        target.stage == Stage::Running && target.queue,
+        StateFault::WrongTarget,
+    )?;
+    ensure(task.posting.is_none(), StateFault::OutOfTurn)
 }
 
-fn judge_begin(own: ThreadRecord, thread: Thread, task: TaskRecord) -> Option<StateFault>
-    ensures { result ≡ begin_fault own thread.number task }
+fn judge_begin(own: ThreadRecord, thread: Thread, task: TaskRecord) -> Result<(), StateFault>
+    ensures { MatchResult result (λ _. begin_fault own thread.number task ≡ None) (λ f. begin_fault own thread.number task ≡ Some f) }
 {
-    if !own.looping {
-        return Some(StateFault::WrongQueue);
-    }
-    refuse(
-        own.current.is_some() || !task.waits_at(thread.number()),
+    ensure(own.looping, StateFault::WrongQueue)?;
+    ensure(
+        own.current.is_none() && task.waits_at(thread.number()),
         StateFault::OutOfTurn,
     )
 }

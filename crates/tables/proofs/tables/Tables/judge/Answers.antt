@@ -1,4 +1,4 @@
-use Rattle.std.proofs.Common.{ap, ◌∙◌}
+use Rattle.std.proofs.Common.{◌≡◌, Some, None, MatchResult, ap, ◌∙◌, subst}
 use Rattle.recording.specs.Rows.{row_of}
 use Rattle.tables.specs.Judging.{verdict}
 use Rattle.tables.proofs.Passed.{bounded}
@@ -9,7 +9,8 @@ pub returns : goal.returns
 returns c initial held m =
     let tables = c.args.self.now in
     let o = c.args.operation.row in
-    c.judge_action.ensures
-    ∙ ap (λ t. verdict tables (row_of t c.action.result)) c.thread.ensures
+    subst (λ v. MatchResult c.judge_action.result (λ _. v ≡ None) (λ f. v ≡ Some f))
+    (ap (λ t. verdict tables (row_of t c.action.result)) c.thread.ensures
     ∙ ap (verdict tables) c.action.ensures
-    ∙ verdict_is initial held tables m o (bounded o c.args.operation.lawful)
+    ∙ verdict_is initial held tables m o (bounded o c.args.operation.lawful))
+    c.judge_action.ensures
