@@ -6,14 +6,14 @@ ghost use Rattle.tables.specs.Steps.{freed, relocked};
 use recording::action::Action;
 
 /// The holder of a lock after a thread has finished.
-fn freed_by(thread: u8, holder: Option<u8>) -> Option<u8>
+fn freed_by(thread: u16, holder: Option<u16>) -> Option<u16>
     ensures { result ≡ freed thread holder }
 {
     holder.filter(|other| *other != thread)
 }
 
 /// Frees the locks of a thread.
-fn free_all(holders: &mut [Option<u8>; 64], thread: u8)
+fn free_all(holders: &mut [Option<u16>; 64], thread: u16)
     ensures { holders.new ≡ map (freed thread) holders.old }
 {
     for holder in holders.iter_mut() {
@@ -22,7 +22,7 @@ fn free_all(holders: &mut [Option<u8>; 64], thread: u8)
 }
 
 /// Takes the step of an accepted operation of the thread.
-pub(crate) fn step(holders: &mut [Option<u8>; 64], thread: u8, action: Action)
+pub(crate) fn step(holders: &mut [Option<u16>; 64], thread: u16, action: Action)
     ensures { holders.new ≡ relocked (row_of thread action) holders.old }
 {
     match action {

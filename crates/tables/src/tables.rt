@@ -24,7 +24,7 @@ mod judging;
 pub struct Tables {
     threads: [ThreadRecord; 64],
     /// The thread that holds each lock.
-    holders: [Option<u8>; 64],
+    holders: [Option<u16>; 64],
     tasks: [TaskRecord; 512],
 }
 
@@ -49,7 +49,7 @@ impl Tables {
         self.threads[thread.number() as usize]
     }
 
-    fn holder(&self, lock: Lock) -> Option<u8>
+    fn holder(&self, lock: Lock) -> Option<u16>
         ensures { result ≡ holder_at self.now.holders lock.number }
     {
         self.holders[lock.number() as usize]

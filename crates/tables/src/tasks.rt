@@ -10,7 +10,7 @@ use recording::action::Action;
 #[derive(Clone, Copy)]
 pub struct Posting {
     pub position: u16,
-    pub target: u8,
+    pub target: u16,
 }
 
 #[derive(Clone, Copy)]
@@ -21,7 +21,7 @@ pub struct TaskRecord {
 
 impl Posting {
     /// The post at a position; all positions are below 512.
-    fn at(position: usize, target: u8) -> Option<Posting>
+    fn at(position: usize, target: u16) -> Option<Posting>
         ensures { result ≡ posted_at position target }
     {
         (position < 512).then(|| Posting {
@@ -33,7 +33,7 @@ impl Posting {
 
 impl TaskRecord {
     /// Whether the task is posted to the thread and not begun.
-    pub(crate) fn waits_at(self, thread: u8) -> bool
+    pub(crate) fn waits_at(self, thread: u16) -> bool
         ensures { result ≡ waits_at self thread }
     {
         !self.begun && self.posting.is_some_and(|posting| posting.target == thread)
