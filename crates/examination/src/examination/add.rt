@@ -1,10 +1,12 @@
 //! Adding an operation.
-ghost use Rattle.std.specs.Prelude.{◌≡◌, [], ◌∷◌, ◌++◌, length, IfOk, None};
+ghost use Rattle.std.specs.Prelude.{◌≡◌, ℕ, true, ◌↔◌, [], ◌∷◌, ◌++◌, length, IfOk, None};
+ghost use Rattle.columns.specs.Positions.{has};
 ghost use Rattle.happens_before.specs.Order.{Before};
 ghost use Rattle.recording.specs.Rows.{operation_row};
 ghost use Rattle.rules.specs.Acceptance.{refusal};
 ghost use Rattle.rules.specs.Answers.{Count};
-ghost use Rattle.examination.specs.Exact.{Exact, held, setting_of, SameSetting};
+ghost use Rattle.races.specs.Chains.{NearestTo};
+ghost use Rattle.examination.specs.Holding.{held, setting_of, SameSetting};
 ghost use Rattle.examination.specs.Calls.{Adds};
 
 use crate::chain::post_of;
@@ -12,9 +14,10 @@ use crate::examination::Examination;
 use crate::examination::added::Added;
 use crate::examination::open::MOST;
 use crate::turn::judge_turn;
+use columns::column::Column;
 use dispatch::discipline::Discipline;
 use ordering::column::{predecessors, task_of};
-use races::nearest::nearest_of;
+use races::nearest::{NearestPosts, nearest_of};
 use recording::operation::Operation;
 use rules::faults::StateFault;
 
@@ -33,18 +36,13 @@ impl<D: Discipline + Drop> Examination<D> {
         judge_turn(&self.discipline, &self.rows, &self.state.tables, operation)
     }
 
-    /// Files an operation that nothing turns away.
-    fn file(&mut self, operation: Operation) -> Added
-        requires { refusal (setting_of D.Discipline.admission D.Discipline.precedence self.old) (held self.old) (operation_row operation) ≡ None }
-        ensures position { result.position ≡ length (held self.old) }
-        ensures holds { held self.new ≡ held self.old ++ operation_row operation ∷ [] }
-        ensures setting { SameSetting self.old self.new }
-        ensures counts { Exact D.Discipline.precedence self.old → Count (length (held self.old)) (λ i. Before (D.Discipline.precedence self.old.discipline) (held self.old ++ operation_row operation ∷ []) i (length (held self.old))) result.before }
-        ensures exact { Exact D.Discipline.precedence self.old → Exact D.Discipline.precedence self.new }
+    /// What is before an operation that nothing turns away.
+    fn column_of(&self, operation: Operation) -> Column
+        requires { refusal (setting_of D.Discipline.admission D.Discipline.precedence self.now) (held self.now) (operation_row operation) ≡ None }
+        ensures { (i : ℕ) → (has result i ≡ true) ↔ Before (D.Discipline.precedence self.now.discipline) (held self.now ++ operation_row operation ∷ []) i (length (held self.now)) }
     {
-        let position = self.rows.len();
         let task = task_of(&self.state.tables, operation);
-        let column = predecessors(
+        predecessors(
             &self.discipline,
             &self.rows,
             &self.columns,
@@ -52,9 +50,30 @@ impl<D: Discipline + Drop> Examination<D> {
             &self.state.index,
             operation,
             task,
-        );
+        )
+    }
+
+    /// The nearest posts of an operation that nothing turns away.
+    fn nearest_of(&self, operation: Operation) -> NearestPosts
+        requires { refusal (setting_of D.Discipline.admission D.Discipline.precedence self.now) (held self.now) (operation_row operation) ≡ None }
+        ensures { NearestTo (held self.now ++ operation_row operation ∷ []) (length (held self.now)) result }
+    {
+        let task = task_of(&self.state.tables, operation);
         let post = post_of(&self.state.tables, task);
-        let nearest = nearest_of(&self.rows, &self.nearests, operation.thread(), post);
+        nearest_of(&self.rows, &self.nearests, operation.thread(), post)
+    }
+
+    /// Files an operation that nothing turns away.
+    fn file(&mut self, operation: Operation) -> Added
+        requires { refusal (setting_of D.Discipline.admission D.Discipline.precedence self.old) (held self.old) (operation_row operation) ≡ None }
+        ensures position { result.position ≡ length (held self.old) }
+        ensures holds { held self.new ≡ held self.old ++ operation_row operation ∷ [] }
+        ensures setting { SameSetting self.old self.new }
+        ensures counts { Count (length (held self.old)) (λ i. Before (D.Discipline.precedence self.old.discipline) (held self.new) i (length (held self.old))) result.before }
+    {
+        let position = self.rows.len();
+        let column = self.column_of(operation);
+        let nearest = self.nearest_of(operation);
         self.state.accept(operation, position);
         self.rows.push_reserved(operation.row());
         self.columns.push_reserved(column);
@@ -69,8 +88,7 @@ impl<D: Discipline + Drop> Examination<D> {
     pub fn add(&mut self, operation: Operation) -> Result<Added, StateFault>
         ensures adds { Adds (setting_of D.Discipline.admission D.Discipline.precedence self.old) (held self.old) (operation_row operation) result (held self.new) }
         ensures setting { SameSetting self.old self.new }
-        ensures counts { Exact D.Discipline.precedence self.old → IfOk result (λ a. Count (length (held self.old)) (λ i. Before (D.Discipline.precedence self.old.discipline) (held self.new) i (length (held self.old))) a.before) }
-        ensures exact { Exact D.Discipline.precedence self.old → Exact D.Discipline.precedence self.new }
+        ensures counts { IfOk result (λ a. Count (length (held self.old)) (λ i. Before (D.Discipline.precedence self.old.discipline) (held self.new) i (length (held self.old))) a.before) }
     {
         if let Some(fault) = self.judge(operation) {
             return Err(fault);

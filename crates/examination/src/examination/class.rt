@@ -3,7 +3,7 @@ ghost use Rattle.std.specs.Prelude.{IfOk};
 ghost use Rattle.rules.specs.Answers.{Classed};
 ghost use Rattle.rules.specs.Numbers.{class_number};
 ghost use Rattle.examination.specs.Calls.{Told};
-ghost use Rattle.examination.specs.Exact.{Exact, held};
+ghost use Rattle.examination.specs.Holding.{held};
 
 use crate::examination::Examination;
 use dispatch::discipline::Discipline;
@@ -15,12 +15,9 @@ impl<D: Discipline + Drop> Examination<D> {
     /// The class of two positions in either order; none where they do not race.
     pub fn class(&self, i: usize, j: usize) -> Result<Option<RaceClass>, NotHeld>
         ensures told { Told (held self.now) i j result }
-        ensures classed { Exact D.Discipline.precedence self.now → IfOk result (λ c. Classed (D.Discipline.precedence self.now.discipline) (held self.now) i j (class_number c)) }
+        ensures classed { IfOk result (λ c. Classed (D.Discipline.precedence self.now.discipline) (held self.now) i j (class_number c)) }
     {
-        let held = self.rows.len();
-        if i >= held || j >= held {
-            return Err(NotHeld);
-        }
+        self.check_held(i, j)?;
         Ok(race_class(&self.rows, &self.columns, &self.nearests, i, j))
     }
 }

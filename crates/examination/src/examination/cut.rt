@@ -1,6 +1,6 @@
 //! Cutting.
 ghost use Rattle.examination.specs.Calls.{Cuts};
-ghost use Rattle.examination.specs.Exact.{Exact, held, SameSetting};
+ghost use Rattle.examination.specs.Holding.{held, SameSetting};
 
 use crate::examination::Examination;
 use crate::state::State;
@@ -12,7 +12,6 @@ impl<D: Discipline + Drop> Examination<D> {
     pub fn cut(&mut self, n: usize) -> Result<(), NotHeld>
         ensures cuts { Cuts (held self.old) n result (held self.new) }
         ensures setting { SameSetting self.old self.new }
-        ensures exact { Exact D.Discipline.precedence self.old → Exact D.Discipline.precedence self.new }
     {
         if n > self.rows.len() {
             return Err(NotHeld);

@@ -1,6 +1,6 @@
 //! Opening an examination.
 ghost use Rattle.std.specs.Prelude.{◌≡◌, [], IfOk};
-ghost use Rattle.examination.specs.Exact.{Exact, held};
+ghost use Rattle.examination.specs.Holding.{held};
 
 use crate::examination::Examination;
 use crate::state::State;
@@ -13,7 +13,7 @@ pub(crate) const MOST: usize = 512;
 impl<D: Discipline + Drop> Examination<D> {
     /// Opens an examination that holds nothing, with all the memory that it will need.
     pub fn open(heap: Global, discipline: D, mask: u64) -> Result<Self, AllocError>
-        ensures { IfOk result (λ e. (held e ≡ []) × (e.mask ≡ mask) × (e.discipline ≡ discipline) × Exact D.Discipline.precedence e) }
+        ensures { IfOk result (λ e. (held e ≡ []) × (e.mask ≡ mask) × (e.discipline ≡ discipline)) }
     {
         let rows = Vec::with_capacity(heap, MOST)?;
         let columns = Vec::with_capacity(heap, MOST)?;

@@ -1,9 +1,9 @@
 //! The order of two positions.
-ghost use Rattle.std.specs.Prelude.{◌≡◌, ◌<◌, length, IfOk};
+ghost use Rattle.std.specs.Prelude.{◌≡◌, ◌<◌, true, ◌↔◌, length, IfOk};
+ghost use Rattle.happens_before.specs.Order.{Before};
 ghost use Rattle.rules.specs.Answers.{Ordered};
-ghost use Rattle.rules.specs.Columns.{pairs_in};
 ghost use Rattle.examination.specs.Calls.{Told};
-ghost use Rattle.examination.specs.Exact.{Exact, held};
+ghost use Rattle.examination.specs.Holding.{held};
 
 use crate::examination::Examination;
 use dispatch::discipline::Discipline;
@@ -11,10 +11,10 @@ use rules::faults::NotHeld;
 use rules::order::Order;
 
 impl<D: Discipline + Drop> Examination<D> {
-    /// Whether the column of `later` has `earlier`.
+    /// Whether the operation at `earlier` is before the one at `later`.
     fn is_before(&self, earlier: usize, later: usize) -> bool
         requires { later < length (held self.now) }
-        ensures { result ≡ pairs_in self.now.columns.items earlier later }
+        ensures { (result ≡ true) ↔ Before (D.Discipline.precedence self.now.discipline) (held self.now) earlier later }
     {
         self.columns[later].contains(earlier)
     }
@@ -22,19 +22,17 @@ impl<D: Discipline + Drop> Examination<D> {
     /// How the first position stands to the second.
     pub fn order(&self, i: usize, j: usize) -> Result<Order, NotHeld>
         ensures told { Told (held self.now) i j result }
-        ensures ordered { Exact D.Discipline.precedence self.now → IfOk result (Ordered (D.Discipline.precedence self.now.discipline) (held self.now) i j) }
+        ensures ordered { IfOk result (Ordered (D.Discipline.precedence self.now.discipline) (held self.now) i j) }
     {
-        let held = self.rows.len();
-        if i >= held || j >= held {
-            Err(NotHeld)
-        } else if i == j {
-            Ok(Order::Same)
+        self.check_held(i, j)?;
+        Ok(if i == j {
+            Order::Same
         } else if self.is_before(i, j) {
-            Ok(Order::Before)
+            Order::Before
         } else if self.is_before(j, i) {
-            Ok(Order::After)
+            Order::After
         } else {
-            Ok(Order::Unordered)
-        }
+            Order::Unordered
+        })
     }
 }

@@ -1,5 +1,4 @@
-use Rattle.std.proofs.Common.{◌≤◌, length, vec_items, sym, refl, subst, subst₂, arith}
-use mathlib.Core.Logic.{∥∥₁_map}
+use Rattle.std.proofs.Common.{◌≤◌, length, vec_items, sym, subst, subst₂, arith}
 use Rattle.recording.specs.Masks.{bit}
 use Rattle.rules.specs.Fair.{FairTables}
 use Rattle.rules.proofs.Fair.{posted_first}
@@ -11,47 +10,28 @@ use Rattle.examination.proofs.examination.Examination.cut.Goals as goal
 
 pub invariant_of-self : goal.invariant_of-self
 invariant_of-self g c =
-    let e = c.args.self.now in
-    record {
-      row_room = omega (arith, c.truncate.ensures.capacity, e.row_room);
-      column_room = omega (arith, c.truncate-2.ensures.capacity, e.column_room);
-      nearest_room = omega (arith, c.truncate-3.ensures.capacity, e.nearest_room);
-      sound =
-          ∥∥₁_map e.sound
-          (λ k.
-          sound_cut e.mask c.args.n (vec_items e.rows) (vec_items c.truncate.new.self) (vec_items e.columns)
-          (vec_items c.truncate-2.new.self) (vec_items e.nearests) (vec_items c.truncate-3.new.self) e.state
-          c.rebuild-state.result k c.truncate.ensures.items c.truncate-2.ensures.items c.truncate-3.ensures.items
-          (subst (λ x. FairTables (bit e.mask) x → length x ≤ 512 → Follows (bit e.mask) x c.rebuild-state.result)
-          c.deref.ensures.value c.rebuild-state.ensures));
-    }
-
-pub returns : goal.returns
-returns g c =
-    let e = c.args.self.now in
-    let follows : FairTables (bit e.mask) (vec_items c.truncate.new.self) → length (vec_items c.truncate.new.self) ≤ 512
-    → Follows (bit e.mask) (vec_items c.truncate.new.self) c.rebuild-state.result =
-    subst (λ x. FairTables (bit e.mask) x → length x ≤ 512 → Follows (bit e.mask) x c.rebuild-state.result) c.deref.ensures.value
-    c.rebuild-state.ensures
-    in
-    record {
-      cuts = (omega (arith, c.if-n-len.false, c.len.ensures, e.rows.ok.0), c.truncate.ensures.items);
-      setting = (refl, refl);
-      exact =
-          λ x.
-          let first = posted_first (bit e.mask) (vec_items e.rows) x.sound.fair in
-          record {
-            sound =
-                sound_cut e.mask c.args.n (vec_items e.rows) (vec_items c.truncate.new.self) (vec_items e.columns)
-                (vec_items c.truncate-2.new.self) (vec_items e.nearests) (vec_items c.truncate-3.new.self) e.state
-                c.rebuild-state.result x.sound c.truncate.ensures.items c.truncate-2.ensures.items c.truncate-3.ensures.items
-                follows;
-            columns =
-                right_cut c.args.n (vec_items e.rows) (vec_items c.truncate.new.self) (vec_items e.columns)
-                (vec_items c.truncate-2.new.self) c.truncate.ensures.items c.truncate-2.ensures.items
-                (g.D.Discipline.precedence e.discipline) first x.columns;
-            nearests =
-                subst₂ NearestRight (sym c.truncate.ensures.items) (sym c.truncate-3.ensures.items)
-                (nearest_right_cut c.args.n (vec_items e.rows) (vec_items e.nearests) first x.nearests);
-          };
-    }
+    let e = c.self.inside in
+    let (room, x) = c.self.invariant in
+    let rows = vec_items c.truncate.new.self in
+    let state = c.rebuild-state.result in
+    let first = posted_first (bit e.mask) (vec_items e.rows) x.sound.fair in (
+      record {
+        row_room = omega (arith, c.truncate.ensures.capacity, room.row_room);
+        column_room = omega (arith, c.truncate-2.ensures.capacity, room.column_room);
+        nearest_room = omega (arith, c.truncate-3.ensures.capacity, room.nearest_room);
+      },
+      record {
+        sound =
+            sound_cut e.mask c.args.n (vec_items e.rows) rows (vec_items e.columns) (vec_items c.truncate-2.new.self)
+            (vec_items e.nearests) (vec_items c.truncate-3.new.self) e.state state x.sound c.truncate.ensures.items
+            c.truncate-2.ensures.items c.truncate-3.ensures.items
+            (subst (λ h. FairTables (bit e.mask) h → length h ≤ 512 → Follows (bit e.mask) h state) c.deref.ensures.value
+            c.rebuild-state.ensures);
+        right =
+            right_cut c.args.n (vec_items e.rows) rows (vec_items e.columns) (vec_items c.truncate-2.new.self)
+            c.truncate.ensures.items c.truncate-2.ensures.items (g.D.Discipline.precedence e.discipline) first x.right;
+        near =
+            subst₂ NearestRight (sym c.truncate.ensures.items) (sym c.truncate-3.ensures.items)
+            (nearest_right_cut c.args.n (vec_items e.rows) (vec_items e.nearests) first x.near);
+      },
+    )
