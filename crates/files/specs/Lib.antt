@@ -1,4 +1,5 @@
 pub mod Faults
 pub mod Files
 pub mod Headers
+pub mod Readers
 pub mod Texts

@@ -1,11 +1,15 @@
 //! The sixteen bytes before the records.
 ghost use Rattle.std.specs.Prelude.{◌≡◌, ◌≤◌, length, Some, None, MatchResult};
 ghost use Rattle.recording.specs.Bytes.{number_at};
-ghost use Rattle.files.specs.Files.{file_fault, marked};
+ghost use Rattle.files.specs.Files.{file_fault};
 ghost use Rattle.files.specs.Headers.{Heads};
 
 use crate::faults::file::FileFault;
 use recording::discipline::DisciplineKind;
+use recording::record::RECORD;
+
+/// The length of a header.
+pub const HEADER: usize = 16;
 
 /// The version that is read and written.
 const VERSION: u16 = 1;
@@ -23,34 +27,23 @@ impl Header {
     pub fn read(file: &[u8]) -> Result<Header, FileFault>
         ensures { MatchResult result (λ h. (file_fault file.now ≡ None) × Heads file.now h) (λ f. file_fault file.now ≡ Some f) }
     {
-        if file.len() < 16 || !is_marked(file) {
+        if file.len() < HEADER || !file.starts_with(b"TLR") {
             return Err(FileFault::NotARecording);
         }
         if u16::from_le_bytes([file[4], file[5]]) != VERSION {
             return Err(FileFault::Version);
         }
-        let Some(discipline) = DisciplineKind::new(file[3]) else {
-            return Err(FileFault::Discipline);
-        };
+        let discipline = DisciplineKind::try_from(file[3]).map_err(|_| FileFault::Discipline)?;
         let count = usize::from(u16::from_le_bytes([file[6], file[7]]));
-        if count > 512 || file.len() != 16 + 12 * count {
+        if count > 512 || file.len() != HEADER + RECORD * count {
             return Err(FileFault::Length);
         }
-        let mask = mask(file);
         Ok(Header {
             discipline,
-            mask,
+            mask: mask(file),
             count,
         })
     }
-}
-
-/// Whether the file begins with the mark TLR.
-fn is_marked(file: &[u8]) -> bool
-    requires { 16 ≤ length file.now }
-    ensures { result ≡ marked file.now }
-{
-    file[0] == b'T' && file[1] == b'L' && file[2] == b'R'
 }
 
 fn mask(file: &[u8]) -> u64

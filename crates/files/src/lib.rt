@@ -3,4 +3,5 @@
 
 pub mod faults;
 pub mod header;
+pub mod input;
 pub mod reader;

@@ -1,16 +1,15 @@
 //! The records of a file, one by one.
-ghost use Rattle.std.specs.Prelude.{◌≡◌, ◌+◌, ◌*◌, ◌<◌, ◌≤◌, length, take, drop, MatchOption};
+ghost use Rattle.std.specs.Prelude.{◌≡◌, ◌-◌, ◌*◌, ◌≤◌, length, drop};
+ghost use Rattle.std.specs.Iterator.{at_most};
 
+use crate::header::HEADER;
 use recording::record::RECORD;
-
-/// The length of a header.
-const HEADER: usize = 16;
 
 /// A record as a part of the file, with its number, from 0.
 #[derive(Clone, Copy)]
 pub struct Record<'a> {
     pub number: usize,
-    pub bytes: &'a [u8; 12],
+    pub bytes: &'a [u8; RECORD],
 }
 
 /// Hands out the records of a file in turn.
@@ -32,18 +31,22 @@ impl<'a> Reader<'a> {
             number: 0,
         }
     }
+}
 
-    /// The next record, or none where fewer than twelve bytes are left.
-    pub fn next_record(&mut self) -> Option<Record<'a>>
-        ensures part { MatchOption result (length self.old.records.now < 12 * (self.old.number + 1)) (λ p. (p.number ≡ self.old.number) × (p.bytes.now ≡ take 12 (drop (12 * self.old.number) self.old.records.now))) }
-        ensures moves { MatchOption result (self.new.number ≡ self.old.number) (λ _. self.new.number ≡ self.old.number + 1) }
-        ensures same { self.new.records.now ≡ self.old.records.now }
-    {
+/// The records in turn; none comes where fewer than twelve bytes are left.
+impl<'a> Iterator for Reader<'a> {
+    ghost use Rattle.files.specs.Readers.{Hands};
+
+    type Item = Record<'a>;
+
+    ghost next_gives = { Hands };
+
+    ghost remaining = { λ r. at_most (length r.records.now - 12 * r.number) };
+
+    fn next(&mut self) -> Option<Record<'a>> {
         let number = self.number;
-        let start = RECORD * number;
-        let rest = &self.records[start..];
-        let bytes = rest.first_chunk::<12>()?;
-        self.number = number + 1;
+        let bytes = self.records[RECORD * number..].first_chunk::<RECORD>()?;
+        self.number += 1;
         Some(Record { number, bytes })
     }
 }

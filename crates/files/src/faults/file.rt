@@ -2,17 +2,17 @@
 ghost use Rattle.std.specs.Prelude.{◌≡◌};
 ghost use Rattle.files.specs.Faults.{file_number, file_byte};
 
-/// What is wrong with a recording's header.
+/// What is wrong with a recording's header, by its number.
 #[derive(Clone, Copy, PartialEq, Eq, Debug)]
 pub enum FileFault {
     /// Under 16 bytes, or another mark.
-    NotARecording,
+    NotARecording = 5,
     /// A version other than 1.
-    Version,
+    Version = 6,
     /// No such discipline.
-    Discipline,
+    Discipline = 7,
     /// Too many records, or a length that does not fit their count.
-    Length,
+    Length = 8,
 }
 
 impl FileFault {
@@ -20,12 +20,7 @@ impl FileFault {
     pub fn number(self) -> u8
         ensures { result ≡ file_number self }
     {
-        match self {
-            FileFault::NotARecording => 5,
-            FileFault::Version => 6,
-            FileFault::Discipline => 7,
-            FileFault::Length => 8,
-        }
+        self as u8
     }
 
     /// The first byte, in the header, of the field that is at fault.
