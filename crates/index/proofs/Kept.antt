@@ -1,18 +1,16 @@
 -- The sets after one more operation.
-use Rattle.std.proofs.Common.{◌≡◌, ℕ, ◌+◌, ◌<◌, ◌≤◌, Bool, true, false, not, ◌&&◌, ◌||◌, eqb, ltb, List, [], ◌∷◌, ◌++◌, length, take, Option, sym, refl, ap, ◌∙◌, subst, ⊎_elim, arith, length-append, le-ltb, lt-ltb, eq-eqb, ne_eqb, eqb-true}
+use Rattle.std.proofs.Common.{◌≡◌, ℕ, ◌+◌, ◌<◌, ◌≤◌, Bool, true, false, not, ◌&&◌, ◌||◌, eqb, ltb, List, [], ◌∷◌, ◌++◌, length, take, Option, sym, refl, ap, ◌∙◌, ⊎_elim, arith, length-append, le-ltb, lt-ltb, eq-eqb, ne_eqb, eqb-true}
 use Rattle.std.proofs.lemmas.List.{get_or_append_left, get_or_push, take-append-le, take_all}
 use Rattle.std.proofs.lemmas.Bool.{cases_lt, cases_eq}
 use Rattle.recording.specs.declared.row.Row.{Row}
-use Rattle.columns.specs.declared.column.Column.{Column}
 use Rattle.columns.specs.Positions.{has}
-use Rattle.columns.specs.Sweep.{column_at}
 use Rattle.happens_before.specs.Trace.{row}
 use Rattle.recording.specs.Codes.{threadexit, attach_q, end, release, enable}
 use Rattle.rules.specs.Acceptance.{does, is_on, forks, loops}
 use Rattle.rules.specs.Options.{is_of}
 use Rattle.index.specs.declared.sets.Index.{Index}
 use Rattle.index.specs.Indexed.{KeepsSince, by_thread, unlooped_at, member_at, Indexed, NotedKinds, NotedRest, SameSets}
-use Rattle.index.specs.Noted.{AddsIf}
+use Rattle.index.specs.Noted.{AddsIf, Columns, Unchanged}
 
 pub row_earlier : (held : List Row) (o : Row) (i : ℕ) → i < length held → row (held ++ o ∷ []) i ≡ row held i
 row_earlier held o i l = rw get_or_append_left refl
@@ -35,7 +33,7 @@ and_true : (x : Bool) → (x && true) ≡ x
 and_true true = refl
 and_true false = refl
 
-module _ (size : ℕ) (P : List Row → ℕ → Row → Bool) (held : List Row) (o : Row) (before after : List Column)
+module _ (size : ℕ) (P : List Row → ℕ → Row → Bool) (held : List Row) (o : Row) (before after : Columns)
     (kept : KeepsSince size P held before)
     (room : length held < 512)
     (adds : AddsIf size (λ k. P held k o) (length held) before after)
@@ -46,7 +44,7 @@ module _ (size : ℕ) (P : List Row → ℕ → Row → Bool) (held : List Row) 
     longer : length (held ++ o ∷ []) ≡ length held + 1
     longer = length-append held (o ∷ [])
 
-    said : (k i : ℕ) → k < size → has (column_at after k) i ≡ ((ltb i (length held) && P (take i held) k (row held i)) || (P held k o && eqb i (length held)))
+    said : (k i : ℕ) → k < size → has (after k) i ≡ ((ltb i (length held) && P (take i held) k (row held i)) || (P held k o && eqb i (length held)))
     said k i l = adds k i l room ∙ ap (λ b. b || (P held k o && eqb i (length held))) (kept k i l)
 
     pub keeps_push : KeepsSince size P (held ++ o ∷ []) after
@@ -89,10 +87,10 @@ module _ (size : ℕ) (P : List Row → ℕ → Row → Bool) (held : List Row) 
 
 -- the same bits, noted under an equal test
 same_test :
-    (size : ℕ) (P Q : ℕ → Bool) (position : ℕ) (before after : List Column) → ((k : ℕ) → P k ≡ Q k)
+    (size : ℕ) (P Q : ℕ → Bool) (position : ℕ) (before after : Columns) → ((k : ℕ) → P k ≡ Q k)
     → AddsIf size P position before after → AddsIf size Q position before after
 same_test size P Q position before after e adds k i l room =
-    adds k i l room ∙ ap (λ b. has (column_at before k) i || (b && eqb i position)) (e k)
+    adds k i l room ∙ ap (λ b. has (before k) i || (b && eqb i position)) (e k)
 
 looping_alike : (t : ℕ) (f : ℕ → Bool) (looping : Bool) → looping ≡ f t → (k : ℕ) → (eqb t k && not looping) ≡ (eqb t k && not (f k))
 looping_alike t f looping e k = go (eqb t k) refl
@@ -111,29 +109,35 @@ module _
     (tasks-so : (p : ℕ) → is_of task p ≡ member_at held p o)
   where
     pushed :
-        (size : ℕ) (P : ℕ → Row → Bool) (old new late : List Column) → KeepsSince size (λ _. P) held old
-        → AddsIf size (λ k. P k o) (length held) old new → late ≡ new → KeepsSince size (λ _. P) (held ++ o ∷ []) late
-    pushed size P old new late kept adds e =
-        subst (λ x. KeepsSince size (λ _. P) (held ++ o ∷ []) x) (sym e) (keeps_push size (λ _. P) held o old new kept room adds)
+        (size : ℕ) (P : ℕ → Row → Bool) (old new late : Columns) → KeepsSince size (λ _. P) held old
+        → AddsIf size (λ k. P k o) (length held) old new → Unchanged size new late → KeepsSince size (λ _. P) (held ++ o ∷ []) late
+    pushed size P old new late kept adds e k i l =
+        ap (λ x. has x i) (e k l) ∙ keeps_push size (λ _. P) held o old new kept room adds k i l
+
+    -- the same where the columns stay before the position is added
+    pushed_late :
+        (size : ℕ) (P : List Row → ℕ → Row → Bool) (Q : ℕ → Bool) (old new late : Columns) → KeepsSince size P held old
+        → Unchanged size old new → ((k : ℕ) → Q k ≡ P held k o) → AddsIf size Q (length held) new late
+        → KeepsSince size P (held ++ o ∷ []) late
+    pushed_late size P Q old new late kept e same adds =
+        keeps_push size P held o new late (λ k i l. ap (λ x. has x i) (e k l) ∙ kept k i l) room
+        (same_test size Q (λ k. P held k o) (length held) new late same adds)
 
     pub indexed_push : Indexed (held ++ o ∷ []) after
     indexed_push =
         record {
           own = pushed 64 by_thread _ _ _ indexed.own kinds.own rest.own;
           unlooped =
-              keeps_push 64 unlooped_at held o before.unlooped after.unlooped indexed.unlooped room
-              (subst (λ x. AddsIf 64 (λ k. unlooped_at held k o) (length held) x after.unlooped) kinds.unlooped
-              (same_test 64 _ _ _ _ _ (looping_alike o.thread (loops held) looping loops-so) rest.unlooped));
+              pushed_late 64 unlooped_at _ _ _ _ indexed.unlooped kinds.unlooped
+              (looping_alike o.thread (loops held) looping loops-so)
+              rest.unlooped;
           attaches = pushed 64 (does attach_q) _ _ _ indexed.attaches kinds.attaches rest.attaches;
           forked = pushed 64 forks _ _ _ indexed.forked kinds.forked rest.forked;
           exits = pushed 64 (does threadexit) _ _ _ indexed.exits kinds.exits rest.exits;
           ended = pushed 64 (does end) _ _ _ indexed.ended kinds.ended rest.ended;
           releases = pushed 64 (is_on release) _ _ _ indexed.releases kinds.releases rest.releases;
           enables = pushed 512 (is_on enable) _ _ _ indexed.enables kinds.enables rest.enables;
-          members =
-              keeps_push 512 member_at held o before.members after.members indexed.members room
-              (subst (λ x. AddsIf 512 (λ k. member_at held k o) (length held) x after.members) kinds.members
-              (same_test 512 _ _ _ _ _ tasks-so rest.members));
+          members = pushed_late 512 member_at _ _ _ _ indexed.members kinds.members tasks-so rest.members;
         }
 
 -- ---- Nothing noted, twice

@@ -1,3 +1,4 @@
 pub mod Noted
+pub mod Sets
 pub mod Indexed
 pub mod Given

@@ -2,4 +2,3 @@
 #![tactic(auto)]
 
 pub mod sets;
-pub mod table;

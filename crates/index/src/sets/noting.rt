@@ -6,8 +6,7 @@ ghost use Rattle.rules.specs.Acceptance.{loops};
 ghost use Rattle.rules.specs.Options.{is_of};
 ghost use Rattle.index.specs.Indexed.{Indexed, NotedKinds, NotedRest, SameSets, member_at};
 
-use crate::sets::Index;
-use crate::table::note;
+use crate::sets::{Index, TaskSets, ThreadSets};
 use columns::column::Column;
 use recording::action::Action;
 use recording::numbers::Thread;
@@ -19,16 +18,22 @@ impl Index {
         ensures { Indexed [] result }
     {
         let none = Column::empty();
+        let thread = ThreadSets {
+            own: none,
+            unlooped: none,
+            attaches: none,
+            forks: none,
+            exits: none,
+            ends: none,
+        };
+        let task = TaskSets {
+            enables: none,
+            members: none,
+        };
         Index {
-            own: [none; 64],
-            unlooped: [none; 64],
-            attaches: [none; 64],
-            forks: [none; 64],
-            exits: [none; 64],
-            ends: [none; 64],
+            threads: [thread; 64],
             releases: [none; 64],
-            enables: [none; 512],
-            members: [none; 512],
+            tasks: [task; 512],
         }
     }
 
@@ -38,14 +43,16 @@ impl Index {
         ensures past { 512 ≤ position → SameSets self.old self.new }
     {
         let t = thread.number() as usize;
-        note(&mut self.own, t, position);
+        self.threads[t].own.insert(position);
         match action {
-            Action::AttachQ => note(&mut self.attaches, t, position),
-            Action::ThreadExit => note(&mut self.exits, t, position),
-            Action::End(_) => note(&mut self.ends, t, position),
-            Action::Fork(target) => note(&mut self.forks, target.number() as usize, position),
-            Action::Release(lock) => note(&mut self.releases, lock.number() as usize, position),
-            Action::Enable(task) => note(&mut self.enables, task.number() as usize, position),
+            Action::AttachQ => self.threads[t].attaches.insert(position),
+            Action::ThreadExit => self.threads[t].exits.insert(position),
+            Action::End(_) => self.threads[t].ends.insert(position),
+            Action::Fork(target) => self.threads[target.number() as usize]
+                .forks
+                .insert(position),
+            Action::Release(lock) => self.releases[lock.number() as usize].insert(position),
+            Action::Enable(task) => self.tasks[task.number() as usize].enables.insert(position),
             _ => {}
         }
     }
@@ -56,10 +63,14 @@ impl Index {
         ensures past { 512 ≤ position → SameSets self.old self.new }
     {
         if !looping {
-            note(&mut self.unlooped, thread.number() as usize, position);
+            self.threads[thread.number() as usize]
+                .unlooped
+                .insert(position);
         }
-        if let Some(p) = task {
-            note(&mut self.members, p as usize, position);
+        if let Some(p) = task
+            && p < 512
+        {
+            self.tasks[p as usize].members.insert(position);
         }
     }
 
