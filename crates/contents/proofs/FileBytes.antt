@@ -1,5 +1,5 @@
 -- A file whose header is lawful begins with the header of what it says.
-use Rattle.std.proofs.Common.{◌≡◌, ℕ, ◌^◌, ◌<◌, ◌≤◌, List, [], ◌∷◌, ◌++◌, length, get_or, take, drop, None, sym, refl, ap, ◌∙◌, subst, arith}
+use Rattle.std.proofs.Common.{◌≡◌, ℕ, ◌^◌, ◌<◌, ◌≤◌, List, ◌∷◌, ◌++◌, length, get_or, take, drop, None, sym, refl, ap, ◌∙◌, subst, arith}
 use Rattle.std.proofs.lemmas.List.{length-take-le, take-append-drop}
 use Rattle.recording.specs.declared.discipline.DisciplineKind.{DisciplineKind}
 use Rattle.recording.specs.declared.discipline.DisciplineKind.TheVariants.{FirstInFirstOut, AnyOrder, Timed}
@@ -72,43 +72,3 @@ contents_lawful f lawful fits d m rows e r =
       count = let l = few f lawful in let c = r.count in omega arith;
       rows = r.lawful_rows;
     }
-
-pub header_spelled :
-    (d m n : ℕ) (c b : List ℕ) → c ≡ bytes_of 2 n → b ≡ bytes_of 8 m
-    → 84
-    ∷ 76
-    ∷ 82
-    ∷ d
-    ∷ 1
-    ∷ 0
-    ∷ get_or c 0 0
-    ∷ get_or c 1 0
-    ∷ get_or b 0 0
-    ∷ get_or b 1 0
-    ∷ get_or b 2 0
-    ∷ get_or b 3 0
-    ∷ get_or b 4 0
-    ∷ get_or b 5 0
-    ∷ get_or b 6 0
-    ∷ get_or b 7 0
-    ∷ []
-    ≡ header_of d m n
-header_spelled d m n c b e f =
-    λ t.
-    84
-    ∷ 76
-    ∷ 82
-    ∷ d
-    ∷ 1
-    ∷ 0
-    ∷ get_or (e t) 0 0
-    ∷ get_or (e t) 1 0
-    ∷ get_or (f t) 0 0
-    ∷ get_or (f t) 1 0
-    ∷ get_or (f t) 2 0
-    ∷ get_or (f t) 3 0
-    ∷ get_or (f t) 4 0
-    ∷ get_or (f t) 5 0
-    ∷ get_or (f t) 6 0
-    ∷ get_or (f t) 7 0
-    ∷ []

@@ -1,13 +1,15 @@
 -- A recording that is held: no row is refused, and it is written whole.
-use Rattle.std.proofs.Common.{◌≡◌, ℕ, ◌+◌, ◌*◌, ◌<◌, ◌≤◌, true, List, ◌++◌, length, get_or, take, drop, is_some, Some, Vec, sym, ap, ◌∙◌, arith}
+use Rattle.std.proofs.Common.{◌≡◌, ℕ, ◌+◌, ◌*◌, ◌<◌, ◌≤◌, true, List, ◌++◌, length, take, drop, is_some, Some, Ok, Err, Result, MatchResult, MatchOption, Vec, sym, ap, ◌∙◌, arith}
 use borrow.Author.Tests.{clash}
-use Rattle.std.proofs.lemmas.List.{append-nil, drop_all, get_or_read, with_items_is}
+use Rattle.std.proofs.lemmas.List.{append-nil, drop_all, with_items_is}
 use Rattle.std.specs.declared.alloc.Global.{Global}
 use Rattle.recording.specs.declared.faults.record.RecordFault.{RecordFault}
 use Rattle.contents.specs.declared.faults.write.WriteFault.{WriteFault}
 use Rattle.recording.specs.declared.row.Row.{Row}
 use Rattle.files.specs.Files.{Contents, Lawful, file_of}
-use Rattle.recording.specs.Rows.{row_at}
+use Rattle.recording.specs.Rows.{operation_row, row_at}
+use Rattle.recording.specs.declared.operation.Operation.{Operation}
+use Rattle.std.specs.Result.{result_ok}
 use Rattle.recording.specs.Lawful.{lawful, fault_in}
 use Rattle.contents.specs.Writing.{Refused}
 use Rattle.contents.specs.Writing.Refused.{no_discipline, too_many, unlawful_row, too_short}
@@ -17,9 +19,13 @@ use Rattle.contents.proofs.ReadBack.{file_long}
 pub no_fault : (r : Row) (f : RecordFault) → lawful r ≡ true → fault_in r ≡ Some f → ⊥
 no_fault r f h e = clash (ap (is_some {T = RecordFault}) (sym (faultless r h) ∙ e))
 
--- the row read at a place, whatever stands for a place past the end
-pub row_read : (rows : List Row) (k : ℕ) (r : Row) → k < length rows → r ≡ get_or rows k r → r ≡ row_at rows k
-row_read rows k r l e = get_or_read rows k r l e _
+-- the operation made of the row at a position, which is lawful
+pub made :
+    (answer : Result Operation RecordFault) (rows : List Row) (count k : ℕ) (row : Row) → k < count → row ≡ row_at rows k → lawful (row_at rows k) ≡ true
+    → MatchResult answer (λ o. (lawful row ≡ true) × (operation_row o ≡ row)) (λ f. fault_in row ≡ Some f)
+    → MatchOption (result_ok answer) (count ≤ k) (λ o. (k < count) × (operation_row o ≡ row_at rows k))
+made (Ok o) rows count k row l e h m = (l, m.1 ∙ e)
+made (Err f) rows count k row l e h m = absurd (no_fault row f (ap lawful e ∙ h) m)
 
 module _
     (c : Contents) (d : c.discipline ≤ 2) (few : length c.rows ≤ 512)

@@ -1,7 +1,7 @@
 -- The records in a buffer, one record further.
 use Rattle.std.proofs.Common.{◌≡◌, ℕ, ◌+◌, ◌*◌, ◌<◌, ◌≤◌, List, [], ◌∷◌, ◌++◌, length, take, drop, sym, refl, ap, ◌∙◌, append_assoc, arith, length-append}
 use lib.Seq.{drop-append-add}
-use Rattle.std.proofs.lemmas.List.{take_more, take_all, drop-drop, length-take-le, take_at}
+use Rattle.std.proofs.lemmas.List.{take_more, drop-drop, length-take-le, take_at}
 use Rattle.recording.specs.declared.row.Row.{Row}
 use Rattle.files.specs.Files.{Contents, header_of, records_of, file_of}
 use Rattle.recording.specs.Rows.{row_at}
@@ -52,14 +52,6 @@ module _ (rows : List Row) (old : List ℕ) (room : 16 + 12 * length rows ≤ le
       (sym (append_assoc (records_of (take n rows)) (record_of (row_at rows n)) (drop (16 + 12 * (n + 1)) old))
       ∙ ap (λ b. b ++ drop (16 + 12 * (n + 1)) old)
       (sym (ap records_of (take_more rows n _ l) ∙ records_push (take n rows) (row_at rows n)))))))))
-
-  pub all_put : (n : ℕ) (buffer : List ℕ) → length rows ≤ n → n ≤ length rows → buffer ≡ filled rows old n
-      → buffer ≡ take 16 old ++ (records_of rows ++ drop (16 + 12 * length rows) old)
-  all_put n buffer l u e =
-      let q : n ≡ length rows = omega arith in
-      e
-      ∙ ap (λ b. take 16 old ++ (b ++ drop (16 + 12 * n) old)) (ap records_of (take_all n rows l))
-      ∙ ap (λ k. take 16 old ++ (records_of rows ++ drop (16 + 12 * k) old)) q
 
 -- the header first, then the records
 pub whole_file :

@@ -1,3 +1,2 @@
-//! Why a recording is not read or written.
-pub mod error;
+//! Why a recording is not written.
 pub mod write;

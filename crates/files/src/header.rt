@@ -11,8 +11,11 @@ use recording::record::RECORD;
 /// The length of a header.
 pub const HEADER: usize = 16;
 
+/// The most records that a recording has.
+pub const MOST_RECORDS: usize = 512;
+
 /// The version that is read and written.
-const VERSION: u16 = 1;
+pub const VERSION: u16 = 1;
 
 /// What a recording's header says.
 #[derive(Clone, Copy)]
@@ -35,7 +38,7 @@ impl Header {
         }
         let discipline = DisciplineKind::try_from(file[3]).map_err(|_| FileFault::Discipline)?;
         let count = usize::from(u16::from_le_bytes([file[6], file[7]]));
-        if count > 512 || file.len() != HEADER + RECORD * count {
+        if count > MOST_RECORDS || file.len() != HEADER + RECORD * count {
             return Err(FileFault::Length);
         }
         Ok(Header {

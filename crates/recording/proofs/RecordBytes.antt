@@ -6,38 +6,6 @@ use Rattle.recording.specs.Records.{record_of, row_in}
 use Rattle.recording.proofs.FixedLength.{of_length}
 use Rattle.recording.proofs.LowFirst.{bytes_again, number_again}
 
-pub spelled :
-    (r : Row) (i s d : List ℕ) → i ≡ bytes_of 2 r.item → s ≡ bytes_of 2 r.reserved → d ≡ bytes_of 4 r.delay
-    → r.code
-    ∷ r.thread
-    ∷ get_or i 0 0
-    ∷ get_or i 1 0
-    ∷ r.target
-    ∷ r.marks
-    ∷ get_or s 0 0
-    ∷ get_or s 1 0
-    ∷ get_or d 0 0
-    ∷ get_or d 1 0
-    ∷ get_or d 2 0
-    ∷ get_or d 3 0
-    ∷ []
-    ≡ record_of r
-spelled r i s d e f g =
-    λ t.
-    r.code
-    ∷ r.thread
-    ∷ get_or (e t) 0 0
-    ∷ get_or (e t) 1 0
-    ∷ r.target
-    ∷ r.marks
-    ∷ get_or (f t) 0 0
-    ∷ get_or (f t) 1 0
-    ∷ get_or (g t) 0 0
-    ∷ get_or (g t) 1 0
-    ∷ get_or (g t) 2 0
-    ∷ get_or (g t) 3 0
-    ∷ []
-
 abbrev parts : List ℕ → List ℕ
 parts b =
     get_or b 0 0

@@ -2,8 +2,9 @@
 ghost use Rattle.std.specs.Prelude.{◌≡◌};
 ghost use Rattle.contents.specs.declared.faults.write.WriteFault.TheVariants.{Record};
 
+use files::faults::at::At;
 use files::faults::file::FileFault;
-use files::faults::read::AtRecord;
+use recording::faults::record::RecordFault;
 
 /// Why a recording is not written.
 #[derive(Clone, Copy, PartialEq, Eq, Debug)]
@@ -11,15 +12,15 @@ pub enum WriteFault {
     /// The fault that the header would have.
     File(FileFault),
     /// The first row that is no lawful record.
-    Record(AtRecord),
+    Record(At<RecordFault>),
     /// The buffer is too short; so many bytes are needed.
     TooShort(usize),
 }
 
-impl From<AtRecord> for WriteFault {
+impl From<At<RecordFault>> for WriteFault {
     ghost from_gives = { λ x y. y ≡ Record x };
 
-    fn from(value: AtRecord) -> WriteFault {
-        WriteFault::Record(value)
+    fn from(at: At<RecordFault>) -> WriteFault {
+        WriteFault::Record(at)
     }
 }

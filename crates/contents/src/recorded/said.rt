@@ -5,11 +5,14 @@ ghost use Rattle.recording.specs.Rows.{row_at};
 ghost use Rattle.contents.specs.Recordings.{Copies, contents_of};
 ghost use Rattle.recording.specs.Rows.{operation_row};
 
-use crate::faults::error::ReadError;
 use crate::recorded::Recording;
 use crate::writer::write;
+use files::faults::failure::Failure;
+use files::faults::read::ReadFault;
+use files::header::HEADER;
 use recording::discipline::DisciplineKind;
 use recording::operation::Operation;
+use recording::record::RECORD;
 use recording::row::Row;
 use std::alloc::{AllocError, Global};
 
@@ -39,31 +42,25 @@ impl Recording {
     pub fn operation(&self, position: usize) -> Option<Operation>
         ensures { MatchOption result (vec_len self.now.rows ≤ position) (λ o. (position < vec_len self.now.rows) × (operation_row o ≡ row_at self.now.rows.items position)) }
     {
-        if position >= self.rows.len() {
-            return None;
-        }
-        match Operation::from_row(self.rows[position]) {
-            Ok(operation) => Some(operation),
-            Err(_) => unreachable(),
-        }
+        let row = self.rows.get(position)?;
+        Operation::try_from(*row).ok()
     }
 
     /// The recording's file.
     pub fn to_bytes(&self, heap: Global) -> Result<Vec<u8>, AllocError>
         ensures { IfOk result (λ v. v.items ≡ file_of (contents_of self.now)) }
     {
-        let mut bytes = vec![in heap; 0; 16 + 12 * self.rows.len()]?;
+        let mut bytes = vec![in heap; 0; HEADER + RECORD * self.rows.len()]?;
         match write(self.discipline.number(), self.mask, &self.rows, &mut bytes) {
             Ok(_) => Ok(bytes),
-            Err(_) => unreachable(),
+            Err(_) => unreachable!(),
         }
     }
 }
 
 /// A file read and written again.
-pub fn copy(heap: Global, file: &[u8]) -> Result<Vec<u8>, ReadError>
+pub fn copy(heap: Global, file: &[u8]) -> Result<Vec<u8>, Failure<ReadFault>>
     ensures { Copies file.now result }
 {
-    let recording = Recording::read(heap, file)?;
-    Ok(recording.to_bytes(heap)?)
+    Ok(Recording::read(heap, file)?.to_bytes(heap)?)
 }

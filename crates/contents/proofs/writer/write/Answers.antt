@@ -1,4 +1,4 @@
-use Rattle.std.proofs.Common.{◌≡◌, ℕ, ◌+◌, ◌*◌, ◌^◌, ◌<◌, ◌≤◌, true, List, length, sym, refl, subst, arith}
+use Rattle.std.proofs.Common.{◌≡◌, ℕ, ◌+◌, ◌*◌, ◌^◌, ◌<◌, ◌≤◌, true, List, length, sym, refl, subst, arith, rules}
 use Rattle.std.proofs.lemmas.Result.{err_from_is_err_and}
 use Rattle.files.specs.Files.{Contents, Lawful}
 use Rattle.recording.specs.Rows.{row_at}
@@ -11,23 +11,17 @@ use Rattle.contents.proofs.ReadBack.{read_back, file_long}
 use Rattle.contents.proofs.WrittenRecords.{whole_file}
 use Rattle.contents.proofs.writer.write.Goals as goal
 
-pub returns-then-discipline-gt2 : goal.returns-then-discipline-gt2
-returns-then-discipline-gt2 c =
-    record { writes = (no_discipline c.if-discipline-gt2.true, refl); reads_back = tt }
+pub returns-then-is_err-clause-writes : goal.returns-then-is_err-clause-writes
+returns-then-is_err-clause-writes c = (no_discipline (search rules), refl)
 
-pub returns-then-rows-gt512 : goal.returns-then-rows-gt512
-returns-then-rows-gt512 c =
-    record { writes = (too_many c.if-discipline-gt2.false c.if-rows-gt512.true, refl); reads_back = tt }
+pub returns-then-rows-gt-MOST_RECORDS-clause-writes : goal.returns-then-rows-gt-MOST_RECORDS-clause-writes
+returns-then-rows-gt-MOST_RECORDS-clause-writes c = (too_many (search rules) c.if-rows-gt-MOST_RECORDS.true, refl)
 
-pub returns-in_err-judge_rows : goal.returns-in_err-judge_rows
-returns-in_err-judge_rows c =
+pub returns-in_err-judge_rows-clause-writes : goal.returns-in_err-judge_rows-clause-writes
+returns-in_err-judge_rows-clause-writes c =
     let p = err_from_is_err_and c.from_residual.result c.from_residual.ensures.1 in
     rw (p.1, p.2)
-    (record {
-      writes =
-          (unlawful_row c.if-discipline-gt2.false c.if-rows-gt512.false c.in_err-judge_rows.ensures, refl);
-      reads_back = tt;
-    })
+    (unlawful_row (search rules) c.if-rows-gt-MOST_RECORDS.false c.in_err-judge_rows.ensures, refl)
 
 -- what is written, once it is judged
 abbrev contents : ℕ → ℕ → List Row → Contents
@@ -45,31 +39,30 @@ refused_short d places h l =
     let e = file_long d h in
     subst (λ n. Refused d places (TooShort n)) e (too_short h (omega arith))
 
-pub returns-then-buffer-needed : goal.returns-then-buffer-needed
-returns-then-buffer-needed c =
+-- what is written, once it is judged
+pub returns-then-buffer-needed-clause-writes : goal.returns-then-buffer-needed-clause-writes
+returns-then-buffer-needed-clause-writes c =
     let d = contents c.args.discipline c.args.mask c.args.rows.now in
     let h =
-    judged c.args.discipline c.args.mask c.args.rows.now c.if-discipline-gt2.false c.ranges.mask.fits
-    c.if-rows-gt512.false c.in_ok-judge_rows.ensures
+    judged c.args.discipline c.args.mask c.args.rows.now (search rules) c.ranges.mask.fits
+    c.if-rows-gt-MOST_RECORDS.false c.in_ok-judge_rows.ensures
     in
-    record {
-      writes = (refused_short d (length c.args.buffer.now) h c.if-buffer-needed.true, refl);
-      reads_back = tt;
-    }
+    (refused_short d (length c.args.buffer.now) h c.if-buffer-needed.true, refl)
 
-pub returns : goal.returns
-returns c =
+pub returns-clause-writes : goal.returns-clause-writes
+returns-clause-writes c =
     let d = contents c.args.discipline c.args.mask c.args.rows.now in
     let h =
-    judged c.args.discipline c.args.mask c.args.rows.now c.if-discipline-gt2.false c.ranges.mask.fits
-    c.if-rows-gt512.false c.in_ok-judge_rows.ensures
-    in
-    record {
-      writes = (
-        h,
-        sym (file_long d h),
-        c.if-buffer-needed.false,
-        whole_file d c.args.buffer.now _ _ _ c.header_bytes.ensures c.put.ensures c.write_records.ensures,
-      );
-      reads_back = read_back d h;
-    }
+    judged c.args.discipline c.args.mask c.args.rows.now (search rules) c.ranges.mask.fits
+    c.if-rows-gt-MOST_RECORDS.false c.in_ok-judge_rows.ensures
+    in (
+      h,
+      sym (file_long d h),
+      c.if-buffer-needed.false,
+      whole_file d c.args.buffer.now _ _ _ c.header_bytes.ensures c.put.ensures c.write_records.ensures,
+    )
+
+pub returns-clause-reads_back : goal.returns-clause-reads_back
+returns-clause-reads_back c =
+    read_back (contents c.args.discipline c.args.mask c.args.rows.now)
+    (judged c.args.discipline c.args.mask c.args.rows.now (search rules) c.ranges.mask.fits c.if-rows-gt-MOST_RECORDS.false c.in_ok-judge_rows.ensures)

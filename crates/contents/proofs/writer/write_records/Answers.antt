@@ -1,5 +1,5 @@
-use Rattle.std.proofs.Common.{refl, arith}
-use Rattle.contents.proofs.WrittenRecords.{one_more, all_put}
+use Rattle.std.proofs.Common.{refl}
+use Rattle.contents.proofs.WrittenRecords.{one_more}
 use Rattle.contents.proofs.writer.write_records.Goals as goal
 
 pub loop-number-preserved : goal.loop-number-preserved
@@ -7,8 +7,3 @@ loop-number-preserved c =
     let l = c.loop-number in
     one_more c.args.rows.now c.args.buffer.now c.requires l.number _ l.buffer _ _ c.loop-number-test.true refl
     l.invariant c.to_bytes.ensures c.put.ensures
-
-pub returns : goal.returns
-returns c =
-    let l = c.loop-number in
-    all_put c.args.rows.now c.args.buffer.now c.requires l.number l.buffer c.loop-number-test.false (omega arith) l.invariant

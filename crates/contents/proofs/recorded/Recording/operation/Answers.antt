@@ -1,13 +1,11 @@
-use Rattle.std.proofs.Common.{sym, ap, ◌∙◌, arith}
-use Rattle.recording.specs.Lawful.{fault_in}
-use Rattle.recording.specs.Rows.{row_at}
-use Rattle.contents.proofs.Held.{no_fault, row_read}
+use Rattle.std.proofs.Common.{◌<◌, vec_len, rules}
+use Rattle.contents.proofs.Held.{made}
 use Rattle.contents.proofs.recorded.Recording.operation.Goals as goal
 
-pub unreachable-requires : goal.unreachable-requires
-unreachable-requires c =
+pub returns : goal.returns
+returns c =
     let held = c.args.self.now in
     let i = c.args.position in
-    let same = held.rows.ok.0 in
-    let read = row_read held.rows.items i _ (omega arith) c.index.ensures in
-    no_fault (row_at held.rows.items i) _ (held.lawful i (omega arith)) (ap fault_in (sym read) ∙ c.in-Err.ensures)
+    let inside : i < vec_len held.rows = search rules in
+    rw c.ok.ensures.value
+    (made c.try_from.result held.rows.items _ i c.in_ok-row.row.now inside (search rules) (held.lawful i inside) c.try_from.ensures)

@@ -7,7 +7,7 @@ use Rattle.contents.proofs.recorded.Recording.read.Goals as goal
 pub returns-in_err-header : goal.returns-in_err-header
 returns-in_err-header c =
     let p = err_from_is_err_and c.from_residual.result c.from_residual.ensures.1 in
-    rw (p.1, p.2) (in_header c.in_err-header.ensures)
+    rw (p.1, p.2.2, p.2.1) (in_header c.in_err-header.ensures)
 
 pub returns : goal.returns
 returns c =
