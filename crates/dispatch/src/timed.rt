@@ -18,10 +18,7 @@ impl Discipline for Timed {
     }
 
     fn precedes(&self, earlier: Marks, later: Marks) -> bool {
-        match (earlier.delay, later.delay) {
-            (None, _) => true,
-            (Some(first), Some(second)) => first <= second,
-            (Some(_), None) => false,
-        }
+        // an undelayed post comes before all: `None` is below each `Some`
+        earlier.delay <= later.delay
     }
 }
