@@ -16,7 +16,7 @@ use Rattle.rules.proofs.Fair.{allowed}
 use Rattle.tables.specs.Matches.{table_refusal}
 use Rattle.tables.proofs.Verdicts.{never_overtakes}
 
-and_none : (x : Bool) → (x && false) ≡ false
+pub and_none : (x : Bool) → (x && false) ≡ false
 and_none true = refl
 and_none false = refl
 

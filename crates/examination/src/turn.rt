@@ -1,96 +1,71 @@
 //! What only the discipline tells of an operation.
-ghost use Rattle.std.specs.Prelude.{◌≡◌, ℕ, ◌<◌, Bool, ◌&&◌, length};
-ghost use Rattle.recording.specs.Rows.{operation_row};
-ghost use Rattle.happens_before.specs.Theorems.{AllInRange};
-ghost use Rattle.happens_before.specs.Trace.{row, item, marks};
-ghost use Rattle.rules.specs.Acceptance.{Setting, overtakes, posts_to, waits as waits_at};
+ghost use Rattle.std.specs.Prelude.{◌≡◌, ℕ, ◌<◌, Bool, true, ◌&&◌, List};
+ghost use Rattle.recording.specs.Posts.{marks_in};
+ghost use Rattle.recording.specs.declared.row.Row.{Row};
+ghost use Rattle.recording.specs.Masks.{bit};
+ghost use Rattle.happens_before.specs.Theorems.{InRange, AllInRange};
+ghost use Rattle.rules.specs.Acceptance.{opened, overtakes, posts_to, waits as waits_at};
 ghost use Rattle.tables.specs.Matches.{Matches};
-ghost use Rattle.tables.proofs.Refusals.{discipline_refusal};
+ghost use Rattle.examination.specs.Refusals.{discipline_refusal, Judged, goes_ahead};
 
 use dispatch::discipline::Discipline;
+use ordering::past::Past;
 use recording::action::Action;
-use recording::code::POST;
+use recording::code::Code;
 use recording::marks::Marks;
 use recording::numbers::{Task, Thread};
 use recording::operation::Operation;
 use recording::row::Row;
 use rules::faults::StateFault;
-use tables::tables::Tables;
 
 /// Whether the row posts to the thread.
 fn posts_to(row: Row, thread: Thread) -> bool
     ensures { result ≡ posts_to thread.number row }
 {
-    row.code == POST && row.target == thread.number()
+    row.code == Code::Post as u8 && u16::from(row.target) == thread.number()
 }
 
-/// Whether the task that is posted at `earlier` waits at the thread and precedes the one that is posted at `later`.
-fn is_ahead<D: Discipline>(
-    discipline: &D,
-    rows: &[Row],
-    tables: &Tables,
-    thread: Thread,
-    earlier: usize,
-    later: usize,
-) -> bool
-    requires earlier { earlier < length rows.now }
-    requires later { later < length rows.now }
-    ensures { (initial : ℕ → Bool) → Matches initial rows.now tables.now → AllInRange rows.now → result ≡ (posts_to thread.number (row rows.now earlier) && (waits_at rows.now thread.number (item rows.now earlier) && D.Discipline.precedence discipline.now (marks rows.now earlier) (marks rows.now later))) }
+/// Whether the row posts a task that waits at the thread and precedes the one that `later` posts.
+fn is_ahead<D: Discipline>(past: &Past<'_, D>, thread: Thread, earlier: Row, later: Row) -> bool
+    ensures { (initial : ℕ → Bool) → Matches initial past.now.rows.now past.now.tables.now → InRange earlier → result ≡ goes_ahead (D.Discipline.precedence past.now.discipline.now) past.now.rows.now thread.number later earlier }
 {
-    posts_to(rows[earlier], thread)
-        && tables.waits(thread, rows[earlier].item)
-        && discipline.precedes(Marks::in_row(rows[earlier]), Marks::in_row(rows[later]))
+    posts_to(earlier, thread)
+        && past.tables.waits(thread, earlier.item)
+        && past
+            .discipline
+            .precedes(Marks::from(earlier), Marks::from(later))
 }
 
 /// Whether a task that waits at the thread, posted before this one was, precedes it.
-fn is_overtaken<D: Discipline>(
-    discipline: &D,
-    rows: &[Row],
-    tables: &Tables,
-    thread: Thread,
-    task: Task,
-) -> bool
-    ensures { (initial : ℕ → Bool) → Matches initial rows.now tables.now → AllInRange rows.now → result ≡ overtakes (D.Discipline.precedence discipline.now) rows.now thread.number task.number }
+fn is_overtaken<D: Discipline>(past: &Past<'_, D>, thread: Thread, task: Task) -> bool
+    ensures { (initial : ℕ → Bool) → Matches initial past.now.rows.now past.now.tables.now → AllInRange past.now.rows.now → result ≡ overtakes (D.Discipline.precedence past.now.discipline.now) past.now.rows.now thread.number task.number }
 {
-    let Some(posting) = tables.posting(task.number()) else {
+    let Some(posting) = past.tables.posting(task.number()) else {
         return false;
     };
     let later = posting.position as usize;
-    if later >= rows.len() {
+    let Some(post) = past.rows.get(later) else {
         return false;
-    }
-    for earlier in 0..later {
-        if is_ahead(discipline, rows, tables, thread, earlier, later) {
-            return true;
-        }
-    }
-    false
+    };
+    past.rows[..later].iter().any(
+        |earlier|
+            ensures { (initial : ℕ → Bool) → Matches initial past.entry.now.rows.now past.entry.now.tables.now → InRange earlier.now → result ≡ goes_ahead (D.Discipline.precedence past.entry.now.discipline.now) past.entry.now.rows.now thread.number post.entry.now earlier.now }
+        { is_ahead(past, thread, *earlier, *post) },
+    )
 }
 
-/// Why the discipline turns the operation away.
+/// Turns the operation away where only the discipline does.
 pub(crate) fn judge_turn<D: Discipline>(
-    discipline: &D,
-    rows: &[Row],
-    tables: &Tables,
+    past: &Past<'_, D>,
     operation: Operation,
-) -> Option<StateFault>
-    ensures { (s : Setting) → Matches s.initial rows.now tables.now → AllInRange rows.now → s.admission ≡ D.Discipline.admission discipline.now → s.precedence ≡ D.Discipline.precedence discipline.now → result ≡ discipline_refusal s rows.now (operation_row operation) }
+) -> Result<(), StateFault>
+    ensures { (mask : ℕ) → Matches (bit mask) past.now.rows.now past.now.tables.now → AllInRange past.now.rows.now → Judged (discipline_refusal (opened (D.Discipline.admission past.now.discipline.now) (D.Discipline.precedence past.now.discipline.now) mask) past.now.rows.now operation.row) result }
 {
     match operation.action() {
-        Action::Begin(task) => {
-            if is_overtaken(discipline, rows, tables, operation.thread(), task) {
-                Some(StateFault::OutOfTurn)
-            } else {
-                None
-            }
+        Action::Begin(task) if is_overtaken(past, operation.thread(), task) => {
+            Err(StateFault::OutOfTurn)
         }
-        Action::Post(_, _, marks) => {
-            if discipline.admits(marks) {
-                None
-            } else {
-                Some(StateFault::NotAdmitted)
-            }
-        }
-        _ => None,
+        Action::Post(_, _, marks) if !past.discipline.admits(marks) => Err(StateFault::NotAdmitted),
+        _ => Ok(()),
     }
 }

@@ -8,6 +8,7 @@ ghost use Rattle.rules.specs.Answers.{Count};
 ghost use Rattle.races.specs.Chains.{NearestTo};
 ghost use Rattle.examination.specs.Holding.{held, setting_of, SameSetting};
 ghost use Rattle.examination.specs.Calls.{Adds};
+ghost use Rattle.examination.specs.Refusals.{Judged};
 
 use crate::chain::post_of;
 use crate::examination::Examination;
@@ -16,24 +17,22 @@ use crate::examination::open::MOST;
 use crate::turn::judge_turn;
 use columns::column::Column;
 use dispatch::discipline::Discipline;
-use ordering::column::{predecessors, task_of};
+use ordering::column::task_of;
 use races::nearest::{NearestPosts, nearest_of};
 use recording::operation::Operation;
 use rules::faults::StateFault;
 
 impl<D: Discipline + Drop> Examination<D> {
-    /// Why the operation is turned away.
-    fn judge(&self, operation: Operation) -> Option<StateFault>
-        ensures { result ≡ refusal (setting_of D.Discipline.admission D.Discipline.precedence self.now) (held self.now) (operation_row operation) }
+    /// Turns the operation away where it is to be refused.
+    fn judge(&self, operation: Operation) -> Result<(), StateFault>
+        ensures { Judged (refusal (setting_of D.Discipline.admission D.Discipline.precedence self.now) (held self.now) (operation_row operation)) result }
     {
-        if self.rows.len() >= MOST {
-            return Some(StateFault::Full);
+        let past = self.past();
+        if past.rows.len() >= MOST {
+            return Err(StateFault::Full);
         }
-        let fault = self.state.tables.judge(operation);
-        if fault.is_some() {
-            return fault;
-        }
-        judge_turn(&self.discipline, &self.rows, &self.state.tables, operation)
+        past.tables.judge(operation)?;
+        judge_turn(&past, operation)
     }
 
     /// What is before an operation that nothing turns away.
@@ -41,16 +40,8 @@ impl<D: Discipline + Drop> Examination<D> {
         requires { refusal (setting_of D.Discipline.admission D.Discipline.precedence self.now) (held self.now) (operation_row operation) ≡ None }
         ensures { (i : ℕ) → (has result i ≡ true) ↔ Before (D.Discipline.precedence self.now.discipline) (held self.now ++ operation_row operation ∷ []) i (length (held self.now)) }
     {
-        let task = task_of(&self.state.tables, operation);
-        predecessors(
-            &self.discipline,
-            &self.rows,
-            &self.columns,
-            &self.state.tables,
-            &self.state.index,
-            operation,
-            task,
-        )
+        let past = self.past();
+        past.predecessors(operation, task_of(past.tables, operation))
     }
 
     /// The nearest posts of an operation that nothing turns away.
@@ -90,9 +81,7 @@ impl<D: Discipline + Drop> Examination<D> {
         ensures setting { SameSetting self.old self.new }
         ensures counts { IfOk result (λ a. Count (length (held self.old)) (λ i. Before (D.Discipline.precedence self.old.discipline) (held self.new) i (length (held self.old))) a.before) }
     {
-        if let Some(fault) = self.judge(operation) {
-            return Err(fault);
-        }
+        self.judge(operation)?;
         Ok(self.file(operation))
     }
 }

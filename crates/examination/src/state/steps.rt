@@ -41,7 +41,7 @@ impl State {
     {
         let mut state = State::new(mask);
         for (position, row) in rows.iter().enumerate() {
-            if let Ok(operation) = Operation::from_row(*row) {
+            if let Ok(operation) = Operation::try_from(*row) {
                 state.accept(operation, position);
             }
         }

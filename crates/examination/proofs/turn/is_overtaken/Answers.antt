@@ -1,72 +1,61 @@
-use Rattle.std.proofs.Common.{◌≡◌, ℕ, Bool, false, ◌&&◌, ltb, None, sym, ◌∙◌, subst, arith, below_more, lt-ltb}
+use Rattle.std.proofs.Common.{◌≡◌, ℕ, ◌<◌, Bool, true, false, ◌&&◌, ltb, length, take, None, sym, ap, ◌∙◌, subst, arith, lt-ltb, rules}
+use Rattle.std.specs.Bool.{MatchBool}
 use Rattle.std.proofs.lemmas.Bool.{cond-true}
+use Rattle.std.proofs.lemmas.Iterator.{YieldsList-from_slice, cases_from_any}
+use Rattle.std.proofs.lemmas.List.{get_or-take, get_or_default, length-take-le}
+use borrow.Author.Tests.{tests}
+use Rattle.recording.specs.Posts.{marks_in}
+use Rattle.recording.specs.Rows.{blank}
+use Rattle.recording.specs.declared.row.Row.{Row}
+use Rattle.happens_before.specs.Theorems.{InRange}
 use Rattle.happens_before.specs.Trace.{row, item, marks, Posts}
-use Rattle.rules.specs.Acceptance.{posts_to, waits, some_below}
-use Rattle.rules.proofs.Pushes.{some_below_false}
+use Rattle.tables.specs.Matches.{Matches}
 use Rattle.tables.specs.Records.{task_at}
 use Rattle.ordering.proofs.Postings.{posted_at_lem, posted_there, posted_never}
-use Rattle.examination.proofs.Turns.{none_ahead, one_ahead}
+use Rattle.examination.specs.Refusals.{goes_ahead}
+use Rattle.examination.proofs.Turns.{never_posted, posted_once}
 use Rattle.examination.proofs.turn.is_overtaken.Goals as goal
 
 pub returns-in_default : goal.returns-in_default
 returns-in_default g c initial matches ranged =
-    let rows = c.args.rows.now in
+    let rows = c.args.past.now.rows.now in
     let n = c.number.result in
     let same : n ≡ c.args.task.number = c.number.ensures.0 in
     let is = (matches.tasks_match n c.number.ensures.1).position_is in
-    let record_is = cond-true (ltb n 512) (task_at c.args.tables.now.tasks n).posting None (lt-ltb n 512 c.number.ensures.1) in
-    none_ahead rows c.args.task.number _
-    (λ b p. absurd (posted_never rows n _ is (sym (c.in_default.ensures ∙ record_is)) b (subst (Posts rows b) (sym same) p)))
-
-pub returns-then-later-rows : goal.returns-then-later-rows
-returns-then-later-rows g c initial matches ranged =
-    let rows = c.args.rows.now in
-    let n = c.number.result in
-    let is = (matches.tasks_match n c.number.ensures.1).position_is in
-    let record_is = cond-true (ltb n 512) (task_at c.args.tables.now.tasks n).posting None (lt-ltb n 512 c.number.ensures.1) in
-    let at = (posted_at_lem rows n _ is c.in-Some.posting (sym (c.in-Some.ensures ∙ record_is))).0 in
-    let never : ⊥ = omega (arith, at, c.if-later-rows.true) in
-    absurd never
-
-pub returns-then-is_ahead : goal.returns-then-is_ahead
-returns-then-is_ahead g c initial matches ranged =
-    let rows = c.args.rows.now in
-    let n = c.number.result in
-    let same : n ≡ c.args.task.number = c.number.ensures.0 in
-    let is = (matches.tasks_match n c.number.ensures.1).position_is in
-    let record_is = cond-true (ltb n 512) (task_at c.args.tables.now.tasks n).posting None (lt-ltb n 512 c.number.ensures.1) in
-    let x = c.in-Some.posting in
-    let at = posted_at_lem rows n _ is x (sym (c.in-Some.ensures ∙ record_is)) in
-    one_ahead rows c.args.task.number
-    (λ b a.
-    posts_to c.args.thread.number (row rows a)
-    && (waits rows c.args.thread.number (item rows a)
-    && g.D.Discipline.precedence c.args.discipline.now (marks rows a) (marks rows b)))
-    x.position c.loop-earlier.earlier at.0 (subst (Posts rows x.position) same at.1) c.loop-earlier-test.true
-    (sym (c.is_ahead.ensures initial matches ranged) ∙ c.if-is_ahead.true)
-
-pub loop-earlier-preserved : goal.loop-earlier-preserved
-loop-earlier-preserved g c initial matches ranged =
-    below_more _ _ (c.loop-earlier.invariant initial matches ranged)
-    (sym (c.is_ahead.ensures initial matches ranged) ∙ c.if-is_ahead.false)
+    let record_is = cond-true (ltb n 512) (task_at c.args.past.now.tables.now.tasks n).posting None (lt-ltb n 512 c.number.ensures.1) in
+    never_posted rows c.args.task.number _
+    (λ b p. posted_never rows n _ is (sym (c.in_default.ensures ∙ record_is)) b (subst (Posts rows b) (sym same) p))
 
 pub returns : goal.returns
 returns g c initial matches ranged =
-    let rows = c.args.rows.now in
+    let rows = c.args.past.now.rows.now in
+    let t = c.args.thread.number in
+    let P = g.D.Discipline.precedence c.args.past.now.discipline.now in
     let n = c.number.result in
     let same : n ≡ c.args.task.number = c.number.ensures.0 in
     let is = (matches.tasks_match n c.number.ensures.1).position_is in
-    let record_is = cond-true (ltb n 512) (task_at c.args.tables.now.tasks n).posting None (lt-ltb n 512 c.number.ensures.1) in
+    let record_is = cond-true (ltb n 512) (task_at c.args.past.now.tables.now.tasks n).posting None (lt-ltb n 512 c.number.ensures.1) in
     let x = c.in-Some.posting in
-    let ahead : ℕ → ℕ → Bool =
-    λ b a.
-    posts_to c.args.thread.number (row rows a)
-    && (waits rows c.args.thread.number (item rows a)
-    && g.D.Discipline.precedence c.args.discipline.now (marks rows a) (marks rows b))
+    let b = x.position in
+    let at = posted_at_lem rows n _ is x (sym (c.in-Some.ensures ∙ record_is)) in
+    let ahead = goes_ahead P rows t in
+    let post = c.in-Some-get.post.now in
+    let tells : Bool → Row → Type 0 =
+    λ r o. (i : ℕ → Bool) → Matches i rows c.args.past.now.tables.now → InRange o → r ≡ ahead post o in
+    let long = length-take-le b rows (omega (arith, at.0)) in
+    let post_is : post ≡ row rows b = c.in-Some-get.ensures.lookup.1 ∙ get_or_default rows b _ blank at.0 in
+    let tells_at : (r : Bool) (a : ℕ) → a < b → tells r (row (take b rows) a) → ahead (row rows b) (row rows a) ≡ r =
+    λ r a l w.
+    sym
+    (subst (tells r) (get_or-take b rows a blank l) w initial matches (ranged a (omega (arith, l, at.0)))
+    ∙ ap (λ o. ahead o (row rows a)) post_is)
     in
-    none_ahead rows c.args.task.number ahead
-    (λ b p.
-    let q = posted_there rows n _ is x (sym (c.in-Some.ensures ∙ record_is)) b (subst (Posts rows b) (sym same) p) in
-    subst (λ k. some_below k (ahead k) ≡ false) q
-    (some_below_false x.position (ahead x.position)
-    (λ a l. c.loop-earlier.invariant initial matches ranged a (omega (arith, l, c.loop-earlier-test.false)))))
+    let found =
+    cases_from_any _ _ _ (tells true) (tells false) c.any.ensures.ran (YieldsList-from_slice (take b rows) c.iter.ensures.rest)
+    (λ r q k. k.met.1) (λ r q k. (search rules, k.met.1))
+    in
+    posted_once rows c.args.task.number (λ b a. ahead (row rows b) (row rows a)) b at.0 (subst (Posts rows b) same at.1)
+    (λ k h. posted_there rows n _ is x (sym (c.in-Some.ensures ∙ record_is)) k (subst (Posts rows k) (sym same) h))
+    c.any.result found
+    (λ h. let l : h.0 < b = omega (arith, h.1, long) in (h.0, l, tells_at true h.0 l (h.2 blank)))
+    (λ none a l. tells_at false a l (none a blank (omega arith) (omega (arith, l, long))))

@@ -1,73 +1,33 @@
-use Rattle.std.proofs.Common.{◌≡◌, ℕ, ◌%◌, Bool, true, false, cond, not, eqb, leb, Some, None, Option, sym, refl, ap, ◌∙◌}
-use Rattle.recording.specs.Posts.{marks_in, marks_number, delay_number}
+use Rattle.std.proofs.Common.{◌≡◌, Bool, true, false, cond, Some, None, Option, sym, ap, ◌∙◌}
 use Rattle.recording.specs.Rows.{row_of}
-use Rattle.recording.specs.declared.marks.Marks.{Marks}
-use Rattle.rules.specs.Acceptance.{overtakes}
-use Rattle.rules.specs.declared.faults.StateFault.TheVariants.{OutOfTurn, NotAdmitted}
-use Rattle.tables.proofs.Refusals.{discipline_refusal}
+use Rattle.recording.specs.Masks.{bit}
+use Rattle.rules.specs.Acceptance.{opened, overtakes}
+use Rattle.rules.specs.declared.faults.StateFault.TheVariants.{OutOfTurn}
+use Rattle.examination.specs.Refusals.{discipline_refusal}
 use Rattle.examination.proofs.turn.judge_turn.Goals as goal
 
--- the marks of a post are those of its row
-abbrev again : Marks → Marks
-again m =
-    record {
-      environment = eqb (marks_number m % 2) 1;
-      delay = cond (leb 2 (marks_number m)) (Some (delay_number m)) None;
-    }
-
-marks_again : (m : Marks) → again m ≡ m
-marks_again m = go m.environment m.delay
-  where
-    go : (b : Bool) (d : Option ℕ) → again (record { environment = b; delay = d }) ≡ record { environment = b; delay = d }
-    go true None = refl
-    go true (Some d) = refl
-    go false None = refl
-    go false (Some d) = refl
-
-pub returns-then-is_overtaken : goal.returns-then-is_overtaken
-returns-then-is_overtaken g c s matches ranged admits precedes =
+pub returns-in-Begin : goal.returns-in-Begin
+returns-in-Begin g c mask matches ranged =
     let o = c.args.operation.row in
-    let held = c.args.rows.now in
-    let p = c.in-Begin.task.number in
+    let past = c.args.past.now in
+    let P = g.D.Discipline.precedence past.discipline.now in
+    let s = opened (g.D.Discipline.admission past.discipline.now) P mask in
     let begins = sym c.action.ensures ∙ ap (row_of o.thread) c.in-Begin.is in
-    let answer = sym (c.is_overtaken.ensures s.initial matches ranged) ∙ c.if-is_overtaken.true in
-    let so : overtakes s.precedence held o.thread p ≡ true =
-    (λ x. overtakes (precedes x) held (sym c.thread.ensures x) p) ∙ answer
+    let so : overtakes P past.rows.now o.thread c.in-Begin.task.number ≡ true =
+    (λ x. overtakes P past.rows.now (sym c.thread.ensures x) c.in-Begin.task.number)
+    ∙ (sym (c.is_overtaken.ensures (bit mask) matches ranged) ∙ c.if-is_overtaken.true)
     in
-    sym (ap (discipline_refusal s held) begins ∙ ap (λ b. cond b (Some OutOfTurn) None) so)
+    ap (discipline_refusal s past.rows.now) begins ∙ ap (λ b. cond b (Some OutOfTurn) None) so
 
-pub returns-else-is_overtaken : goal.returns-else-is_overtaken
-returns-else-is_overtaken g c s matches ranged admits precedes =
+pub returns-in_default : goal.returns-in_default
+returns-in_default g c mask matches ranged =
     let o = c.args.operation.row in
-    let held = c.args.rows.now in
-    let p = c.in-Begin.task.number in
+    let past = c.args.past.now in
+    let P = g.D.Discipline.precedence past.discipline.now in
+    let s = opened (g.D.Discipline.admission past.discipline.now) P mask in
     let begins = sym c.action.ensures ∙ ap (row_of o.thread) c.in-Begin.is in
-    let answer = sym (c.is_overtaken.ensures s.initial matches ranged) ∙ c.if-is_overtaken.false in
-    let so : overtakes s.precedence held o.thread p ≡ false =
-    (λ x. overtakes (precedes x) held (sym c.thread.ensures x) p) ∙ answer
+    let so : overtakes P past.rows.now o.thread c.in-Begin.task.number ≡ false =
+    (λ x. overtakes P past.rows.now (sym c.thread.ensures x) c.in-Begin.task.number)
+    ∙ (sym (c.is_overtaken.ensures (bit mask) matches ranged) ∙ c.if-is_overtaken.false)
     in
-    sym (ap (discipline_refusal s held) begins ∙ ap (λ b. cond b (Some OutOfTurn) None) so)
-
-pub returns-then-admits : goal.returns-then-admits
-returns-then-admits g c s matches ranged admits precedes =
-    let o = c.args.operation.row in
-    let held = c.args.rows.now in
-    let m = c.in-Post.marks in
-    let posts = sym c.action.ensures ∙ ap (row_of o.thread) c.in-Post.is in
-    let so : s.admission (marks_in o) ≡ true =
-    ap (λ r. s.admission (marks_in r)) posts
-    ∙ (ap s.admission (marks_again m) ∙ (ap (λ f. f m) admits ∙ (sym c.admits.ensures ∙ c.if-admits.true)))
-    in
-    sym (ap (discipline_refusal s held) posts ∙ ap (λ b. cond (not b) (Some NotAdmitted) None) (sym (ap (λ r. s.admission (marks_in r)) posts) ∙ so))
-
-pub returns-else-admits : goal.returns-else-admits
-returns-else-admits g c s matches ranged admits precedes =
-    let o = c.args.operation.row in
-    let held = c.args.rows.now in
-    let m = c.in-Post.marks in
-    let posts = sym c.action.ensures ∙ ap (row_of o.thread) c.in-Post.is in
-    let so : s.admission (marks_in o) ≡ false =
-    ap (λ r. s.admission (marks_in r)) posts
-    ∙ (ap s.admission (marks_again m) ∙ (ap (λ f. f m) admits ∙ (sym c.admits.ensures ∙ c.if-admits.false)))
-    in
-    sym (ap (discipline_refusal s held) posts ∙ ap (λ b. cond (not b) (Some NotAdmitted) None) (sym (ap (λ r. s.admission (marks_in r)) posts) ∙ so))
+    ap (discipline_refusal s past.rows.now) begins ∙ ap (λ b. cond b (Some OutOfTurn) None) so

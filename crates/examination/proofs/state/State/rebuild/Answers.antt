@@ -18,7 +18,7 @@ loop-position-preserved c fair few =
     let i = c.loop-position.position in
     let taken = c.loop-position-test.true in
     let at = fair i taken in
-    elim c.match-from_row.branch [
+    elim c.match-try_from.branch [
       | in-Ok w ↦
           (let row_is = w.in-Ok.ensures.1 in
           let l : i ≤ length rows = omega (arith, taken) in
