@@ -5,4 +5,3 @@ mod ThreadSteps
 mod LockSteps
 mod TaskSteps
 mod Agreement
-pub mod Refusals
