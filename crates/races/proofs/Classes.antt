@@ -1,9 +1,9 @@
 -- The tests on rows, columns and nearest posts tell which operations race, and of which class.
-use Rattle.std.proofs.Common.{◌≡◌, ℕ, ◌<◌, ◌≤◌, min, max, Bool, true, false, cond, not, ◌&&◌, ltb, ◌⊎◌, ◌↔◌, List, [], length, Some, None, Option, sym, refl, ap, ◌∙◌, subst, inl, inr, ⊎_elim, arith, ltb-true, lt-ltb, eq-eqb, eqb-true}
+use Rattle.std.proofs.Common.{◌≡◌, ℕ, ◌<◌, ◌≤◌, min, max, Bool, true, false, cond, not, ◌&&◌, ltb, ◌⊎◌, ◌↔◌, List, [], length, get_or, Some, None, Option, sym, refl, ap, ◌∙◌, subst, inl, inr, ⊎_elim, arith, ltb-true, lt-ltb, eq-eqb, eqb-true}
 use native.Mathlib.Nat.{zero-div}
 use borrow.Author.Tests.{not-false, both_ways, clash}
-use Rattle.std.proofs.lemmas.List.{get_or_past}
-use Rattle.std.proofs.lemmas.Bool.{and_parts, and_from, and_right}
+use Rattle.std.proofs.lemmas.List.{get_or_past, get_or_default}
+use Rattle.std.proofs.lemmas.Bool.{and_parts, and_from, and_right, cases_lt}
 use Rattle.std.proofs.lemmas.Bool.Decides.{Decides-eqb, Decides-and, Decides-or, Decides-not, Decides-like}
 use Rattle.recording.specs.Codes.{read, write}
 use Rattle.recording.specs.declared.row.Row.{Row}
@@ -34,6 +34,17 @@ unfolding has
 has_nothing columns i k l =
     ap (λ (c : Column). has c i) (get_or_past columns k (record { words = [] }) l)
     ∙ and_right (ltb i 512) _ (rw zero-div refl)
+
+-- a column that has nothing may stand for one past the end
+pub column_or :
+    (columns : List Column) (empty : Column) (k i : ℕ) → has empty i ≡ false
+    → has (get_or columns k empty) i ≡ pairs_in columns i k
+column_or columns empty k i none =
+    ⊎_elim
+    (λ (l : k < length columns). ap (λ (c : Column). has c i) (get_or_default columns k empty (record { words = [] }) l))
+    (λ (l : length columns ≤ k).
+    ap (λ (c : Column). has c i) (get_or_past columns k empty l) ∙ (none ∙ sym (has_nothing columns i k l)))
+    (cases_lt k (length columns))
 
 -- ---- Conflicts and races
 

@@ -1,9 +1,10 @@
 -- What is gathered from the tests is the race list.
 use Rattle.std.proofs.Common.{◌≡◌, ℕ, ◌+◌, ◌<◌, ◌≤◌, min, Bool, true, false, not, ◌&&◌, eqb, List, [], ◌∷◌, ◌++◌, length, take, drop, set, Ok, sym, refl, ap, ◌∙◌, subst, ap₂, inl, inr, arith}
-use Rattle.std.proofs.lemmas.List.{append_assoc, length-append, length_push, length-take-le, take_at, drop_at}
+use Rattle.std.proofs.lemmas.List.{append_assoc, get_or-take, length-append, length_push, length-take-le, take_at, drop_at}
 use Rattle.std.proofs.lemmas.Slice.{drop-append-drop}
 use Rattle.std.proofs.lemmas.Bool.{and_left, and_right, or_parts, or_from, cond-true, cond-false}
 use Rattle.recording.specs.Codes.{read, write}
+use Rattle.recording.specs.Rows.{blank}
 use Rattle.recording.specs.declared.row.Row.{Row}
 use Rattle.columns.specs.declared.column.Column.{Column}
 use Rattle.columns.specs.Positions.{has, Holds}
@@ -150,10 +151,12 @@ module _ (rows : List Row) (columns : List Column) (nearests : List NearestPosts
   -- the test on the column of j
   pub tested :
       (column : Column) (i j : ℕ) (b : Bool)
+      → i < j
       → Holds column (has (column_at columns j))
-      → b ≡ (conflicting (row rows i) (row rows j) && not (has column i))
+      → b ≡ (conflicting (row (take j rows) i) (row rows j) && not (has column i))
       → b ≡ racing rows columns i j
-  tested column i j b holds e = e ∙ ap (λ h. conflicting (row rows i) (row rows j) && not h) (holds i)
+  tested column i j b l holds e =
+      e ∙ ap₂ (λ r h. conflicting r (row rows j) && not h) (get_or-take j rows i blank l) (holds i)
 
   module _ (i j : ℕ) (e : racing rows columns i j ≡ true) where
     pub more_here : gathered (race_of rows columns nearests j) (i + 1) ≡ gathered (race_of rows columns nearests j) i ++ race_row rows columns nearests j i ∷ []

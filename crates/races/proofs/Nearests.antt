@@ -1,8 +1,8 @@
 -- The nearest posts of an added position, and what additions and cuts leave as it was.
-use Rattle.std.proofs.Common.{◌≡◌, ℕ, ◌<◌, Bool, true, false, cond, eqb, ◌↔◌, List, [], ◌∷◌, ◌++◌, length, take, is_some, Some, None, Option, sym, refl, ap, ◌∙◌, subst, ⊎_elim, arith, eq-eqb, eqb-true}
+use Rattle.std.proofs.Common.{◌≡◌, ℕ, ◌<◌, Bool, true, false, cond, eqb, ltb, ◌↔◌, List, [], ◌∷◌, ◌++◌, length, take, is_some, Some, None, Option, sym, refl, ap, ◌∙◌, subst, ⊎_elim, arith, lt-ltb, eq-eqb, eqb-true}
 use borrow.Author.Tests.{not-true, not-false, both_ways, clash}
 use Rattle.std.proofs.lemmas.List.{get_or_append_left, get_or_push, get_or-take, length_push, length-take}
-use Rattle.std.proofs.lemmas.Bool.{cases_lt, not_from_false}
+use Rattle.std.proofs.lemmas.Bool.{cond-true, cases_lt, not_from_false}
 use Rattle.recording.specs.Posts.{marks_in}
 use Rattle.recording.specs.declared.row.Row.{Row}
 use Rattle.happens_before.specs.Trace.{row, thread}
@@ -14,7 +14,7 @@ use Rattle.happens_before.proofs.Extended.{agree_extended, agree_cut}
 use Rattle.happens_before.proofs.Races.{task_post_earlier, nearest_environment, nearest_delayed, nearest_foreign}
 use Rattle.rules.specs.Options.{is_of}
 use Rattle.races.specs.declared.nearest.NearestPosts.{NearestPosts}
-use Rattle.races.specs.Chains.{no_posts, nearest_at, nearest_past, Finds, NearestTo, NearestRight}
+use Rattle.races.specs.Chains.{no_posts, nearest_at, nearest_past, nearest_added, Finds, NearestTo, NearestRight, NearestOfAdded}
 
 pub ne_true : (b : Bool) → (b ≡ true → ⊥) → b ≡ false
 ne_true true f = absurd (f refl)
@@ -165,3 +165,18 @@ module _
                 (λ e f. both_ways _ (not-true _ e) (other f), λ f. not_from_false _ (ne_true _ (λ e. f (own e))))
                 (λ e. subst (λ t. Finds (nearest_at nearests b).foreign (Nearest trace (Foreign trace t) b)) (own (not-false _ e)) beyond.foreign);
           }
+
+pub nearest_added_right :
+    (held : List Row) (nearests : List NearestPosts) (t : ℕ) (post : Option ℕ) (posts : NearestPosts)
+    → posts ≡ nearest_added held nearests t post
+    → NearestOfAdded held nearests t post posts
+nearest_added_right held nearests t None posts is o thread posted post same right =
+    nearest_right_push held nearests o posted right posts same
+    (subst (NearestTo (held ++ o ∷ []) (length held)) (sym is) (nearest_to_none held nearests o posted right post))
+nearest_added_right held nearests t (Some b) posts is o thread posted post same right =
+    let past = λ (t : ℕ). nearest_past t b (row held b) (nearest_at nearests b) in
+    let at : posts ≡ past o.thread =
+    is ∙ (cond-true (ltb b (length held)) (past t) no_posts (lt-ltb b (length held) (post_before held nearests o posted right b post))
+    ∙ ap past (sym thread)) in
+    nearest_right_push held nearests o posted right posts same
+    (subst (NearestTo (held ++ o ∷ []) (length held)) (sym at) (nearest_to_past held nearests o posted right b post))

@@ -3,13 +3,14 @@ ghost use Rattle.std.specs.Prelude.{◌≡◌, ◌<◌, ◌&&◌, length, if◌t
 ghost use Rattle.rules.specs.Answers.{Classed};
 ghost use Rattle.rules.specs.Columns.{pairs_in};
 ghost use Rattle.rules.specs.Numbers.{class_number};
-ghost use Rattle.races.specs.Classes.{WhereRight, accesses, conflicting, differs, unordered, class_on_thread, racing, class_at};
+ghost use Rattle.races.specs.Classes.{WhereRight, accesses, conflicting, unordered, class_on_thread, racing, class_at};
 
-use crate::nearest::{NearestPosts, nearest_at};
-use columns::column::Column;
+use crate::held::Held;
+use crate::nearest::NearestPosts;
 use recording::code::{READ, WRITE};
 use recording::row::Row;
 use rules::race::RaceClass;
+use std::cmp::Ordering;
 
 /// Whether the operation reads or writes a location.
 pub(crate) fn is_access(row: Row) -> bool
@@ -27,107 +28,76 @@ pub(crate) fn conflict(earlier: Row, later: Row) -> bool
             || (earlier.code == READ && later.code == WRITE))
 }
 
-/// Whether the column of `later` has `earlier`.
-fn is_before(columns: &[Column], earlier: usize, later: usize) -> bool
-    ensures { result ≡ pairs_in columns.now earlier later }
-{
-    later < columns.len() && columns[later].contains(earlier)
-}
-
-/// Whether only one post is there, or they differ.
-fn differ(a: Option<u16>, b: Option<u16>) -> bool
-    ensures { result ≡ differs a b }
-{
-    match (a, b) {
-        (Some(a), Some(b)) => a != b,
-        (None, None) => false,
-        _ => true,
-    }
-}
-
-/// Whether both posts are there, differ, and the first is not before the second.
-fn are_unordered(columns: &[Column], a: Option<u16>, b: Option<u16>) -> bool
-    ensures { result ≡ unordered columns.now a b }
-{
-    match (a, b) {
-        (Some(a), Some(b)) => a != b && !is_before(columns, a as usize, b as usize),
-        _ => false,
-    }
-}
-
-/// The class of two racing operations of one thread, by their nearest posts.
-fn class_on_thread(columns: &[Column], earlier: NearestPosts, later: NearestPosts) -> RaceClass
-    ensures { result ≡ class_on_thread columns.now earlier later }
-{
-    if are_unordered(columns, earlier.environment, later.environment) {
-        RaceClass::CoEnabled
-    } else if differ(earlier.delayed, later.delayed) {
-        RaceClass::Delayed
-    } else if differ(earlier.foreign, later.foreign) {
-        RaceClass::CrossPosted
-    } else {
-        RaceClass::Unknown
-    }
-}
-
-/// The class of two racing operations.
-pub(crate) fn classify(
-    rows: &[Row],
-    columns: &[Column],
-    nearests: &[NearestPosts],
-    earlier: usize,
-    later: usize,
-) -> RaceClass
-    requires { (earlier < length rows.now) × (later < length rows.now) }
-    ensures { result ≡ class_at rows.now columns.now nearests.now earlier later }
-{
-    if rows[earlier].thread != rows[later].thread {
-        RaceClass::MultiThreaded
-    } else {
-        class_on_thread(
-            columns,
-            nearest_at(nearests, earlier),
-            nearest_at(nearests, later),
-        )
-    }
-}
-
-/// The class of a rising pair; none where it is no race.
-fn class_of_pair(
-    rows: &[Row],
-    columns: &[Column],
-    nearests: &[NearestPosts],
-    earlier: usize,
-    later: usize,
-) -> Option<RaceClass>
-    requires { earlier < later }
-    ensures { result ≡ (if nat_lt later (length rows.now) && racing rows.now columns.now earlier later then Some (class_at rows.now columns.now nearests.now earlier later) else None) }
-{
-    if later < rows.len()
-        && conflict(rows[earlier], rows[later])
-        && !is_before(columns, earlier, later)
+impl Held<'_> {
+    /// Whether the column of `later` has `earlier`.
+    fn is_before(&self, earlier: usize, later: usize) -> bool
+        ensures { result ≡ pairs_in self.now.columns.now earlier later }
     {
-        Some(classify(rows, columns, nearests, earlier, later))
-    } else {
-        None
+        self.columns
+            .get(later)
+            .is_some_and(|column| column.contains(earlier))
     }
-}
 
-/// The class of two positions in either order; none where they do not race.
-pub fn race_class(
-    rows: &[Row],
-    columns: &[Column],
-    nearests: &[NearestPosts],
-    i: usize,
-    j: usize,
-) -> Option<RaceClass>
-    ensures { WhereRight rows.now columns.now nearests.now (λ D. Classed D rows.now i j (class_number result)) }
-{
-    if i < j {
-        class_of_pair(rows, columns, nearests, i, j)
-    } else if j < i {
-        class_of_pair(rows, columns, nearests, j, i)
-    } else {
-        None
+    /// Whether both posts are there, differ, and the first is not before the second.
+    fn are_unordered(&self, a: Option<u16>, b: Option<u16>) -> bool
+        ensures { result ≡ unordered self.now.columns.now a b }
+    {
+        match (a, b) {
+            (Some(a), Some(b)) => a != b && !self.is_before(a as usize, b as usize),
+            _ => false,
+        }
+    }
+
+    /// The class of two racing operations of one thread, by their nearest posts.
+    fn class_on_thread(&self, earlier: NearestPosts, later: NearestPosts) -> RaceClass
+        ensures { result ≡ class_on_thread self.now.columns.now earlier later }
+    {
+        if self.are_unordered(earlier.environment, later.environment) {
+            RaceClass::CoEnabled
+        } else if earlier.delayed != later.delayed {
+            RaceClass::Delayed
+        } else if earlier.foreign != later.foreign {
+            RaceClass::CrossPosted
+        } else {
+            RaceClass::Unknown
+        }
+    }
+
+    /// The class of two racing operations.
+    pub(crate) fn classify(&self, earlier: usize, later: usize) -> RaceClass
+        requires { (earlier < length self.now.rows.now) × (later < length self.now.rows.now) }
+        ensures { result ≡ class_at self.now.rows.now self.now.columns.now self.now.nearests.now earlier later }
+    {
+        if self.rows[earlier].thread != self.rows[later].thread {
+            RaceClass::MultiThreaded
+        } else {
+            self.class_on_thread(self.nearest_at(earlier), self.nearest_at(later))
+        }
+    }
+
+    /// The class of a rising pair; none where it is no race.
+    fn class_of_pair(&self, earlier: usize, later: usize) -> Option<RaceClass>
+        requires { earlier < later }
+        ensures { result ≡ (if nat_lt later (length self.now.rows.now) && racing self.now.rows.now self.now.columns.now earlier later then Some (class_at self.now.rows.now self.now.columns.now self.now.nearests.now earlier later) else None) }
+    {
+        if later < self.rows.len()
+            && conflict(self.rows[earlier], self.rows[later])
+            && !self.is_before(earlier, later)
+        {
+            Some(self.classify(earlier, later))
+        } else {
+            None
+        }
+    }
+
+    /// The class of two positions in either order; none where they do not race.
+    pub fn class(&self, i: usize, j: usize) -> Option<RaceClass>
+        ensures { WhereRight self.now.rows.now self.now.columns.now self.now.nearests.now (λ D. Classed D self.now.rows.now i j (class_number result)) }
+    {
+        match i.cmp(&j) {
+            Ordering::Less => self.class_of_pair(i, j),
+            Ordering::Greater => self.class_of_pair(j, i),
+            Ordering::Equal => None,
+        }
     }
 }

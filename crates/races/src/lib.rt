@@ -2,6 +2,7 @@
 #![tactic(auto)]
 
 pub mod class;
+pub mod held;
 pub mod list;
 pub mod nearest;
 #[cfg(test)]

@@ -1,6 +1,5 @@
 //! Races on examples.
-use crate::class::race_class;
-use crate::list::list_races;
+use crate::held::Held;
 use crate::nearest::NearestPosts;
 use columns::column::Column;
 use recording::row::Row;
@@ -38,11 +37,21 @@ fn class_of(
     i: usize,
     j: usize,
 ) -> Option<RaceClass> {
-    race_class(rows, columns, nearests, i, j)
+    Held {
+        rows,
+        columns,
+        nearests,
+    }
+    .class(i, j)
 }
 
 fn listed(rows: &[Row], columns: &[Column], races: &mut [RaceRow]) -> Result<usize, TooShort> {
-    list_races(rows, columns, &[], races)
+    Held {
+        rows,
+        columns,
+        nearests: &[],
+    }
+    .list(races)
 }
 
 #[test]

@@ -1,8 +1,0 @@
-use Rattle.std.proofs.Common.{◌≡◌, ◌++◌, length, drop}
-use Rattle.races.specs.Listing.{races_below}
-use Rattle.races.proofs.list.write_all.Given as goal
-
-abbrev pub invariant-loop-later : goal.invariant-loop-later
-invariant-loop-later l =
-    (l.n ≡ length (races_below l.rows l.columns l.nearests l.later))
-    × (l.races ≡ races_below l.rows l.columns l.nearests l.later ++ drop l.n l.initial.races)
