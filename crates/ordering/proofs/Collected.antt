@@ -19,7 +19,6 @@ use Rattle.recording.specs.declared.action.Action.TheVariants.{
   Read,
   Write,
 }
-use Rattle.recording.specs.declared.numbers.Task.{Task}
 use Rattle.recording.specs.declared.row.Row.{Row}
 use Rattle.recording.specs.Rows.{row_of}
 use Rattle.happens_before.specs.Trace.{row, Posts}
@@ -31,7 +30,7 @@ use Rattle.ordering.specs.Directly.{BegunAfter, TaskBefore, Directly}
 use Rattle.ordering.specs.Directly.Directly.{by_program, by_task, by_kind, by_post, by_handover}
 
 -- an action with the code of begin is one
-pub only_begin : (t : ℕ) (a : Action) → (row_of t a).code ≡ begin → ((p : Task) → a ≡ Begin p → ⊥) → ⊥
+pub only_begin : (t : ℕ) (a : Action) → (row_of t a).code ≡ begin → ((p : _) → a ≡ Begin p → ⊥) → ⊥
 only_begin t ThreadInit e n = let q : ◌≡◌ {A = ℕ} 1 8 = e in omega arith
 only_begin t ThreadExit e n = let q : ◌≡◌ {A = ℕ} 2 8 = e in omega arith
 only_begin t (Fork u) e n = let q : ◌≡◌ {A = ℕ} 3 8 = e in omega arith

@@ -21,8 +21,8 @@ impl<D: Discipline> Past<'_, D> {
         requires { (earlier < length self.now.rows.now) × (later < length self.now.rows.now) }
         ensures { result ≡ D.Discipline.precedence self.now.discipline.now (marks self.now.rows.now earlier) (marks self.now.rows.now later) }
     {
-        let earlier = Marks::in_row(self.rows[earlier]);
-        let later = Marks::in_row(self.rows[later]);
+        let earlier = Marks::from(self.rows[earlier]);
+        let later = Marks::from(self.rows[later]);
         self.discipline.precedes(earlier, later)
     }
 

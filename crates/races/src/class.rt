@@ -1,5 +1,6 @@
 //! Whether two operations race, and the class of a race.
-ghost use Rattle.std.specs.Prelude.{◌≡◌, ◌<◌, ◌&&◌, length, if◌then◌else◌, Some, None, nat_lt};
+ghost use Rattle.std.specs.Prelude.{◌≡◌, ◌<◌, ◌&&◌, ◌==◌, length, if◌then◌else◌, Some, None, nat_lt};
+ghost use Rattle.recording.specs.Codes.{read, write};
 ghost use Rattle.rules.specs.Answers.{Classed};
 ghost use Rattle.rules.specs.Columns.{pairs_in};
 ghost use Rattle.rules.specs.Numbers.{class_number};
@@ -7,16 +8,28 @@ ghost use Rattle.races.specs.Classes.{WhereRight, accesses, conflicting, unorder
 
 use crate::held::Held;
 use crate::nearest::NearestPosts;
-use recording::code::{READ, WRITE};
+use recording::code::Code;
 use recording::row::Row;
 use rules::race::RaceClass;
 use std::cmp::Ordering;
+
+fn is_write(row: Row) -> bool
+    ensures { result ≡ (row.code == write) }
+{
+    row.code == Code::Write as u8
+}
+
+fn is_read(row: Row) -> bool
+    ensures { result ≡ (row.code == read) }
+{
+    row.code == Code::Read as u8
+}
 
 /// Whether the operation reads or writes a location.
 pub(crate) fn is_access(row: Row) -> bool
     ensures { result ≡ accesses row }
 {
-    row.code == WRITE || row.code == READ
+    is_write(row) || is_read(row)
 }
 
 /// Whether both touch one location, and one writes.
@@ -24,8 +37,7 @@ pub(crate) fn conflict(earlier: Row, later: Row) -> bool
     ensures { result ≡ conflicting earlier later }
 {
     earlier.item == later.item
-        && ((earlier.code == WRITE && is_access(later))
-            || (earlier.code == READ && later.code == WRITE))
+        && ((is_write(earlier) && is_access(later)) || (is_read(earlier) && is_write(later)))
 }
 
 impl Held<'_> {

@@ -29,9 +29,9 @@ impl Held<'_> {
         ensures { result ≡ (if nat_lt post (length self.now.rows.now) then Some (nearest_past thread.number post (row self.now.rows.now post) (nearest_at self.now.nearests.now post)) else None) }
     {
         let row = self.rows.get(post as usize)?;
-        let marks = Marks::in_row(*row);
+        let marks = Marks::from(*row);
         let beyond = self.nearest_at(post as usize);
-        let foreign = row.thread != thread.number();
+        let foreign = u16::from(row.thread) != thread.number();
         Some(NearestPosts {
             environment: marks.environment.then_some(post).or(beyond.environment),
             delayed: marks.delay.is_some().then_some(post).or(beyond.delayed),
