@@ -1,9 +1,9 @@
 -- The lines of a list of operations, and the threads of a mask, one further.
-use Rattle.std.proofs.Common.{◌≡◌, ℕ, suc, ◌+◌, ◌/◌, ◌%◌, ◌^◌, ◌<◌, ◌≤◌, cond, List, [], ◌∷◌, ◌++◌, length, get_or, take, codes, decimal, sym, refl, ap, ◌∙◌, append_assoc, append-nil, add-one, arith, eq-eqb, ne_eqb}
-use Rattle.std.proofs.lemmas.List.{take_more, take_all, length-take-le}
+use Rattle.std.proofs.Common.{◌≡◌, ℕ, suc, ◌+◌, ◌<◌, cond, List, [], ◌∷◌, ◌++◌, length, get_or, take, codes, decimal, sym, refl, ap, ◌∙◌, append_assoc, append-nil, add-one, arith}
+use Rattle.std.proofs.lemmas.List.{take_more, length-take-le}
 use Rattle.recording.specs.declared.row.Row.{Row}
 use Rattle.recording.specs.Masks.{bit}
-use Rattle.listing.specs.Listings.{threads_below, threads_text, operation_line, operation_lines}
+use Rattle.listing.specs.Listings.{threads_below, operation_line, operation_lines}
 
 lines_push :
     (n : ℕ) (xs : List Row) (r : Row)
@@ -25,31 +25,11 @@ lines_more xs i d h =
     ∙ lines_push 0 (take i xs) (get_or xs i d)
     ∙ ap (λ k. operation_lines 0 (take i xs) ++ operation_line k (get_or xs i d)) e
 
-pub lines_all : (xs : List Row) (n : ℕ) → length xs ≤ n → operation_lines 0 (take n xs) ≡ operation_lines 0 xs
-lines_all xs n h = ap (operation_lines 0) (take_all n xs h)
-
 pub threads_none : (mask : ℕ) → threads_below mask 0 ≡ []
 unfolding threads_below
 threads_none mask = refl
 
-threads_step :
+pub threads_step :
     (mask n : ℕ) → threads_below mask (n + 1) ≡ threads_below mask n ++ cond (bit mask n) (codes " " ++ decimal n) []
 unfolding threads_below
 threads_step mask n = ap (threads_below mask) (add-one n)
-
-pub threads_more :
-    (mask n : ℕ) → mask / 2 ^ n % 2 ≡ 1 → threads_below mask (n + 1) ≡ threads_below mask n ++ (codes " " ++ decimal n)
-threads_more mask n e =
-    threads_step mask n ∙ ap (λ b. threads_below mask n ++ cond b (codes " " ++ decimal n) []) (eq-eqb _ _ e)
-
-pub threads_same : (mask n : ℕ) → (mask / 2 ^ n % 2 ≡ 1 → ⊥) → threads_below mask (n + 1) ≡ threads_below mask n
-threads_same mask n e =
-    threads_step mask n
-    ∙ ap (λ b. threads_below mask n ++ cond b (codes " " ++ decimal n) []) (ne_eqb _ _ e)
-    ∙ append-nil (threads_below mask n)
-
-pub text_none : (mask : ℕ) → mask ≡ 0 → threads_text mask ≡ codes " none"
-text_none mask e = ap (λ b. cond b (codes " none") (threads_below mask 64)) (eq-eqb mask 0 e)
-
-pub text_some : (mask : ℕ) → (mask ≡ 0 → ⊥) → threads_text mask ≡ threads_below mask 64
-text_some mask e = ap (λ b. cond b (codes " none") (threads_below mask 64)) (ne_eqb mask 0 e)

@@ -1,73 +1,84 @@
 //! The lines of a recording.
-ghost use Rattle.std.specs.Prelude.{◌≡◌, ◌++◌, string_bytes, OnOk};
+ghost use Rattle.std.specs.Prelude.{◌<◌, vec_len, Some};
 ghost use Rattle.contents.specs.Recordings.{contents_of};
-ghost use Rattle.listing.specs.Listings.{threads_below, threads_line, head_lines, operation_lines, lines_of};
+ghost use Rattle.listing.specs.Listings.{threads_text, head_lines, operation_lines, lines_of};
 
 use contents::recorded::Recording;
 use std::fmt;
 
-/// Adds the threads of a mask, a space before each.
-fn push_threads(text: &mut String, mask: u64) -> fmt::Result
-    ensures { OnOk result (string_bytes text.new ≡ string_bytes text.old ++ threads_below mask 64) }
-{
-    for thread in 0..64u32 {
-        if (mask >> thread) % 2 == 1 {
-            write!(text, " {thread}")?;
+/// The threads of a mask, a space before each, or none.
+#[derive(Clone, Copy)]
+struct Threads(u64);
+
+impl fmt::Display for Threads {
+    ghost output = { λ t. Some (threads_text t.0) };
+
+    fn fmt<W: fmt::Write>(&self, f: &mut fmt::Formatter<W>) -> fmt::Result {
+        if self.0 == 0 {
+            return write!(f, " none");
         }
+        for thread in 0..64u32 {
+            if (self.0 >> thread) % 2 == 1 {
+                write!(f, " {thread}")?;
+            }
+        }
+        Ok(())
     }
-    Ok(())
 }
 
-/// Adds the line of the initial threads.
-fn push_initial(text: &mut String, mask: u64) -> fmt::Result
-    ensures { OnOk result (string_bytes text.new ≡ string_bytes text.old ++ threads_line mask) }
-{
-    write!(text, "initial threads")?;
-    if mask == 0 {
-        write!(text, " none")?;
-    } else {
-        push_threads(text, mask)?;
+/// The lines before the operations.
+#[derive(Clone, Copy)]
+struct Head<'a>(&'a Recording);
+
+impl fmt::Display for Head<'_> {
+    ghost output = { λ h. Some (head_lines (contents_of h.0.now)) };
+
+    fn fmt<W: fmt::Write>(&self, f: &mut fmt::Formatter<W>) -> fmt::Result {
+        let discipline = self.0.discipline();
+        let number = discipline.number();
+        let threads = Threads(self.0.mask());
+        let count = self.0.rows().len();
+        write!(f, "discipline {number} {discipline}\n")?;
+        write!(f, "initial threads{threads}\n")?;
+        write!(f, "count {count}\n")
     }
-    write!(text, "\n")?;
-    Ok(())
 }
 
-/// Adds the lines before the operations.
-fn push_head(text: &mut String, recording: &Recording) -> fmt::Result
-    ensures { OnOk result (string_bytes text.new ≡ string_bytes text.old ++ head_lines (contents_of recording.now)) }
-{
-    let discipline = recording.discipline();
-    let number = discipline.number();
-    write!(text, "discipline {number} {discipline}\n")?;
-    push_initial(text, recording.mask())?;
-    let count = recording.rows().len();
-    write!(text, "count {count}\n")?;
-    Ok(())
-}
+/// A line for each operation.
+#[derive(Clone, Copy)]
+struct Operations<'a>(&'a Recording);
 
-/// Adds a line for each operation.
-fn push_operations(text: &mut String, recording: &Recording) -> fmt::Result
-    ensures { OnOk result (string_bytes text.new ≡ string_bytes text.old ++ operation_lines 0 (contents_of recording.now).rows) }
-{
-    let mut number = 0;
-    while let Some(operation) = recording.operation(number) {
-        write!(text, "{number} {operation}\n")?;
-        number += 1;
+impl fmt::Display for Operations<'_> {
+    ghost output = { λ o. Some (operation_lines 0 (contents_of o.0.now).rows) };
+
+    fn fmt<W: fmt::Write>(&self, f: &mut fmt::Formatter<W>) -> fmt::Result {
+        for number in 0..self.0.rows().len() {
+            if let Some(operation) = self.0.operation(number) {
+                write!(f, "{number} {operation}\n")?;
+            }
+        }
+        Ok(())
     }
-    Ok(())
 }
 
-/// Adds the lines of a recording, and whether it has the same bytes when it is written again.
-pub(crate) fn push_lines(text: &mut String, recording: &Recording, same: bool) -> fmt::Result
-    ensures { OnOk result (string_bytes text.new ≡ string_bytes text.old ++ lines_of (contents_of recording.now) same) }
-{
-    push_head(text, recording)?;
-    push_operations(text, recording)?;
-    let count = recording.rows().len();
-    let bytes = if same { "same" } else { "other" };
-    write!(
-        text,
-        "{count} operations read, written again: {bytes} bytes\n"
-    )?;
-    Ok(())
+/// The lines of a recording, and whether it has the same bytes when it is written again.
+#[derive(Clone, Copy)]
+pub(crate) struct Listing<'a> {
+    pub(crate) recording: &'a Recording,
+    pub(crate) same: bool,
+}
+
+impl fmt::Display for Listing<'_> {
+    ghost output = { λ l. Some (lines_of (contents_of l.recording.now) l.same) };
+
+    fn fmt<W: fmt::Write>(&self, f: &mut fmt::Formatter<W>) -> fmt::Result {
+        let head = Head(self.recording);
+        let operations = Operations(self.recording);
+        let count = self.recording.rows().len();
+        let bytes = if self.same { "same" } else { "other" };
+        write!(
+            f,
+            "{head}{operations}{count} operations read, written again: {bytes} bytes\n"
+        )
+    }
 }

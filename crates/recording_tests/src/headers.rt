@@ -1,7 +1,8 @@
 //! Headers and lengths.
-use contents::faults::error::ReadError;
 use contents::recorded::Recording;
+use files::faults::failure::Failure;
 use files::faults::read::ReadFault;
+use files::input::input;
 use std::alloc::Global;
 use std::test::Fail;
 
@@ -11,17 +12,14 @@ const EMPTY: [u8; 16] = *b"TLR\x00\x01\x00\x00\x00\x00\x00\x00\x00\x00\x00\x00\x
 /// The number and the place of a file's fault.
 fn fault(heap: Global, file: &[u8]) -> Result<(u8, u8), Fail> {
     match Recording::read(heap, file) {
-        Err(ReadError::Fault(ReadFault::File(fault))) => Ok((fault.number(), fault.byte())),
+        Err(Failure::Fault(ReadFault::File(fault))) => Ok((fault.number(), fault.byte())),
         _ => Err(Fail::new("the header is not at fault")),
     }
 }
 
 /// How many operations a recording has.
 fn count(heap: Global, file: &[u8]) -> Result<usize, Fail> {
-    match Recording::read(heap, file) {
-        Ok(recording) => Ok(recording.rows().len()),
-        Err(_) => Err(Fail::new("no recording")),
-    }
+    Ok(Recording::read(heap, file)?.rows().len())
 }
 
 #[test]
@@ -102,5 +100,17 @@ fn too_many(rt: HostRuntime) -> Result<(), Fail> {
     let file = records(rt.alloc(), 513)?;
     assert_eq!(rt; file.len(), 6172);
     assert_eq!(rt; fault(rt.alloc(), &file)?, (8, 6));
+    Ok(())
+}
+
+#[test]
+fn longer_input_is_cut(rt: HostRuntime) -> Result<(), Fail> {
+    let longest = records(rt.alloc(), 512)?;
+    assert_eq!(rt;
+        input(rt.alloc(), longest.as_slice())?.as_slice(),
+        longest.as_slice()
+    );
+    let longer = records(rt.alloc(), 514)?;
+    assert_eq!(rt; input(rt.alloc(), longer.as_slice())?.len(), 6161);
     Ok(())
 }

@@ -1,6 +1,6 @@
 //! The faults of a record, each at each of its places.
-use contents::faults::error::ReadError;
 use contents::recorded::Recording;
+use files::faults::failure::Failure;
 use files::faults::read::ReadFault;
 use recording::numbers::{Lock, Task, Thread};
 use std::alloc::Global;
@@ -45,7 +45,7 @@ fn file(record: &[u8; 12]) -> [u8; 52] {
 /// The number of the first bad record, and its fault's number and place.
 fn fault(heap: Global, file: &[u8]) -> Result<(usize, u8, u8), Fail> {
     match Recording::read(heap, file) {
-        Err(ReadError::Fault(ReadFault::Record(at))) => {
+        Err(Failure::Fault(ReadFault::Record(at))) => {
             Ok((at.number, at.fault.number(), at.fault.byte()))
         }
         _ => Err(Fail::new("no record is at fault")),

@@ -3,8 +3,8 @@ use contents::faults::write::WriteFault;
 use contents::recorded::Recording;
 use contents::recorded::said::copy;
 use contents::writer::write;
+use files::faults::at::At;
 use files::faults::file::FileFault;
-use files::faults::read::AtRecord;
 use recording::faults::record::RecordFault;
 use recording::row::Row;
 use std::process::Abort;
@@ -20,25 +20,16 @@ const GOOD: Row = Row {
     delay: 0,
 };
 
-const BAD: Row = Row {
-    code: 13,
-    thread: 64,
-    item: 9,
-    target: 0,
-    marks: 0,
-    reserved: 0,
-    delay: 0,
-};
+const BAD: Row = Row { thread: 64, ..GOOD };
 
 /// The refusal of a writer that has 39 places, which it leaves as they were.
 fn refusal(rt: &impl Abort, discipline: u8, rows: &[Row]) -> Result<WriteFault, Fail> {
     let mut buffer = [7; 39];
-    let answer = write(discipline, 3, rows, &mut buffer);
+    let Err(fault) = write(discipline, 3, rows, &mut buffer) else {
+        return Err(Fail::new("not refused"));
+    };
     assert!(rt; buffer == [7; 39]);
-    match answer {
-        Ok(_) => Err(Fail::new("not refused")),
-        Err(fault) => Ok(fault),
-    }
+    Ok(fault)
 }
 
 #[test]
@@ -55,7 +46,7 @@ fn refusals(rt: HostRuntime) -> Result<(), Fail> {
     let fault = RecordFault::ThreadTooLarge;
     assert_eq!(rt;
         refusal(&rt, 2, &[GOOD, BAD, BAD])?,
-        WriteFault::Record(AtRecord { number: 1, fault })
+        WriteFault::Record(At { number: 1, fault })
     );
     assert_eq!(rt; refusal(&rt, 2, &[GOOD, GOOD])?, WriteFault::TooShort(40));
     Ok(())
@@ -76,16 +67,9 @@ fn longest(rt: HostRuntime) -> Result<(), Fail> {
     let rows = vec![in rt.alloc(); GOOD; 512]?;
     let mut buffer = vec![in rt.alloc(); 0; 6160]?;
     assert_eq!(rt; write(0, u64::MAX, &rows, &mut buffer), Ok(6160));
-    let again = match copy(rt.alloc(), &buffer) {
-        Ok(again) => again,
-        Err(_) => return Err(Fail::new("not read")),
-    };
+    let again = copy(rt.alloc(), &buffer)?;
     assert!(rt; again.as_slice() == buffer.as_slice());
-    match Recording::read(rt.alloc(), &buffer) {
-        Ok(recording) => {
-            assert!(rt; recording.mask() == u64::MAX && recording.rows() == rows.as_slice());
-            Ok(())
-        },
-        Err(_) => Err(Fail::new("not read")),
-    }
+    let recording = Recording::read(rt.alloc(), &buffer)?;
+    assert!(rt; recording.mask() == u64::MAX && recording.rows() == rows.as_slice());
+    Ok(())
 }
