@@ -4,5 +4,4 @@ mod Refused
 mod Pushed
 mod TaskPosts
 mod Cut
-mod Stored
 mod Accepted

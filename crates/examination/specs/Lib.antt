@@ -2,6 +2,6 @@ pub mod Follows
 pub mod Sound
 pub mod Exact
 pub mod Holding
-pub mod IsPast
+pub mod Stored
 pub mod Refusals
 pub mod Calls

@@ -40,4 +40,4 @@ mod held;
 pub mod list;
 pub mod open;
 pub mod order;
-mod past;
+mod stored;

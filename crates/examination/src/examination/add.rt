@@ -18,7 +18,7 @@ use crate::turn::judge_turn;
 use columns::column::Column;
 use dispatch::discipline::Discipline;
 use ordering::column::task_of;
-use races::nearest::{NearestPosts, nearest_of};
+use races::nearest::NearestPosts;
 use recording::operation::Operation;
 use rules::faults::StateFault;
 
@@ -49,9 +49,9 @@ impl<D: Discipline + Drop> Examination<D> {
         requires { refusal (setting_of D.Discipline.admission D.Discipline.precedence self.now) (held self.now) (operation_row operation) ≡ None }
         ensures { NearestTo (held self.now ++ operation_row operation ∷ []) (length (held self.now)) result }
     {
-        let task = task_of(&self.state.tables, operation);
-        let post = post_of(&self.state.tables, task);
-        nearest_of(&self.rows, &self.nearests, operation.thread(), post)
+        let tables = self.past().tables;
+        let post = post_of(tables, task_of(tables, operation));
+        self.races().nearest_of(operation.thread(), post)
     }
 
     /// Files an operation that nothing turns away.

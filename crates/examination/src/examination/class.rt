@@ -7,7 +7,6 @@ ghost use Rattle.examination.specs.Holding.{held};
 
 use crate::examination::Examination;
 use dispatch::discipline::Discipline;
-use races::class::race_class;
 use rules::faults::NotHeld;
 use rules::race::RaceClass;
 
@@ -18,6 +17,6 @@ impl<D: Discipline + Drop> Examination<D> {
         ensures classed { IfOk result (λ c. Classed (D.Discipline.precedence self.now.discipline) (held self.now) i j (class_number c)) }
     {
         self.check_held(i, j)?;
-        Ok(race_class(&self.rows, &self.columns, &self.nearests, i, j))
+        Ok(self.races().class(i, j))
     }
 }

@@ -7,7 +7,6 @@ ghost use Rattle.examination.specs.Holding.{held};
 
 use crate::examination::Examination;
 use dispatch::discipline::Discipline;
-use races::list::list_races;
 use rules::faults::TooShort;
 use rules::race::RaceRow;
 
@@ -17,6 +16,6 @@ impl<D: Discipline + Drop> Examination<D> {
         ensures kept { Kept places.old places.new result }
         ensures listed { (races : List RaceRow) × RaceList (D.Discipline.precedence self.now.discipline) (held self.now) races × Listed races places.old places.new result }
     {
-        list_races(&self.rows, &self.columns, &self.nearests, places)
+        self.races().list(places)
     }
 }

@@ -1,14 +1,11 @@
-use Rattle.std.proofs.Common.{◌≡◌, ℕ, ◌<◌, Bool, true, false, ◌&&◌, ltb, length, take, None, sym, ap, ◌∙◌, subst, arith, lt-ltb, rules}
-use Rattle.std.specs.Bool.{MatchBool}
+use Rattle.std.proofs.Common.{◌≡◌, ℕ, ◌<◌, Bool, true, false, ltb, take, None, sym, ap, ◌∙◌, subst, arith, lt-ltb, rules}
 use Rattle.std.proofs.lemmas.Bool.{cond-true}
 use Rattle.std.proofs.lemmas.Iterator.{YieldsList-from_slice, cases_from_any}
 use Rattle.std.proofs.lemmas.List.{get_or-take, get_or_default, length-take-le}
-use borrow.Author.Tests.{tests}
-use Rattle.recording.specs.Posts.{marks_in}
 use Rattle.recording.specs.Rows.{blank}
 use Rattle.recording.specs.declared.row.Row.{Row}
 use Rattle.happens_before.specs.Theorems.{InRange}
-use Rattle.happens_before.specs.Trace.{row, item, marks, Posts}
+use Rattle.happens_before.specs.Trace.{row, Posts}
 use Rattle.tables.specs.Matches.{Matches}
 use Rattle.tables.specs.Records.{task_at}
 use Rattle.ordering.proofs.Postings.{posted_at_lem, posted_there, posted_never}

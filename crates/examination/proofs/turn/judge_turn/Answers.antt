@@ -1,4 +1,4 @@
-use Rattle.std.proofs.Common.{◌≡◌, Bool, true, false, cond, Some, None, Option, sym, ap, ◌∙◌}
+use Rattle.std.proofs.Common.{◌≡◌, true, false, cond, Some, None, sym, ap, ◌∙◌}
 use Rattle.recording.specs.Rows.{row_of}
 use Rattle.recording.specs.Masks.{bit}
 use Rattle.rules.specs.Acceptance.{opened, overtakes}

@@ -1,12 +1,13 @@
-//! What an added operation is judged and placed by.
-ghost use Rattle.examination.specs.IsPast.{IsPast};
+//! What is stored, lent to the crates below.
+ghost use Rattle.examination.specs.Stored.{IsPast, IsHeld};
 
 use crate::examination::Examination;
 use dispatch::discipline::Discipline;
 use ordering::past::Past;
+use races::held::Held;
 
 impl<D: Discipline + Drop> Examination<D> {
-    /// What is held.
+    /// By which an added operation is judged and placed.
     pub(crate) fn past(&self) -> Past<'_, D>
         ensures { IsPast D.Discipline.precedence self.now result }
     {
@@ -16,6 +17,17 @@ impl<D: Discipline + Drop> Examination<D> {
             columns: &self.columns,
             tables: &self.state.tables,
             index: &self.state.index,
+        }
+    }
+
+    /// By which races are told.
+    pub(crate) fn races(&self) -> Held<'_>
+        ensures { IsHeld D.Discipline.precedence self.now result }
+    {
+        Held {
+            rows: &self.rows,
+            columns: &self.columns,
+            nearests: &self.nearests,
         }
     }
 }
