@@ -1,5 +1,6 @@
 -- The sets after one more operation.
 use Rattle.std.proofs.Common.{◌≡◌, ℕ, ◌+◌, ◌<◌, ◌≤◌, Bool, true, false, not, ◌&&◌, ◌||◌, eqb, ltb, List, [], ◌∷◌, ◌++◌, length, take, Option, sym, refl, ap, ◌∙◌, ⊎_elim, arith, length-append, le-ltb, lt-ltb, eq-eqb, ne_eqb, eqb-true}
+use Rattle.std.proofs.Math.Bool.{and-false, and-true, or-false}
 use Rattle.std.proofs.lemmas.List.{get_or_append_left, get_or_push, take-append-le, take_all}
 use Rattle.std.proofs.lemmas.Bool.{cases_lt, cases_eq}
 use Rattle.recording.specs.declared.row.Row.{Row}
@@ -20,18 +21,6 @@ row_newest held o i e = let q : length held ≡ i = sym e in rw get_or_push refl
 
 pub take_earlier : (held : List Row) (o : Row) (i : ℕ) → i ≤ length held → take i (held ++ o ∷ []) ≡ take i held
 take_earlier held o i l = rw take-append-le refl
-
-or_false : (x : Bool) → (x || false) ≡ x
-or_false true = refl
-or_false false = refl
-
-and_false : (x : Bool) → (x && false) ≡ false
-and_false true = refl
-and_false false = refl
-
-and_true : (x : Bool) → (x && true) ≡ x
-and_true true = refl
-and_true false = refl
 
 module _ (size : ℕ) (P : List Row → ℕ → Row → Bool) (held : List Row) (o : Row) (before after : Columns)
     (kept : KeepsSince size P held before)
@@ -55,8 +44,8 @@ module _ (size : ℕ) (P : List Row → ℕ → Row → Bool) (held : List Row) 
         let ne : i ≡ length held → ⊥ = omega arith in
         let q = longer in
         (λ t. (lt-ltb i (length held) lt t && P (take i held) k (row held i)) || (P held k o && ne_eqb i (length held) ne t))
-        ∙ (ap (λ b. P (take i held) k (row held i) || b) (and_false (P held k o))
-        ∙ (or_false (P (take i held) k (row held i))
+        ∙ (ap (λ b. P (take i held) k (row held i) || b) (and-false (P held k o))
+        ∙ (or-false (P (take i held) k (row held i))
         ∙ sym
         (λ t.
         lt-ltb i (length (held ++ o ∷ [])) (omega arith) t
@@ -66,7 +55,7 @@ module _ (size : ℕ) (P : List Row → ℕ → Row → Bool) (held : List Row) 
         (λ (e : i ≡ length held).
         let q = longer in
         (λ t. (le-ltb i (length held) ge t && P (take i held) k (row held i)) || (P held k o && eq-eqb i (length held) e t))
-        ∙ (and_true (P held k o)
+        ∙ (and-true (P held k o)
         ∙ sym
         (λ t.
         lt-ltb i (length (held ++ o ∷ [])) (omega arith) t
@@ -74,7 +63,7 @@ module _ (size : ℕ) (P : List Row → ℕ → Row → Bool) (held : List Row) 
         (λ (ne : i ≡ length held → ⊥).
         let q = longer in
         (λ t. (le-ltb i (length held) ge t && P (take i held) k (row held i)) || (P held k o && ne_eqb i (length held) ne t))
-        ∙ (and_false (P held k o)
+        ∙ (and-false (P held k o)
         ∙ sym
         (λ t.
         le-ltb i (length (held ++ o ∷ [])) (omega arith) t

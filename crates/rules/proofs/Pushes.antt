@@ -1,21 +1,14 @@
 -- What one more held operation changes.
 use Rattle.std.proofs.Common.{◌≡◌, ℕ, zero, suc, ◌<◌, Bool, true, false, not, ◌&&◌, ◌||◌, List, [], ◌∷◌, ◌++◌, sym, refl, ap, ◌∙◌, ⊎_elim, arith}
+use Rattle.std.proofs.Math.Bool.{and-true, or-false, or-true, or_assoc}
 use borrow.Author.Tests.{clash}
 use Rattle.std.proofs.lemmas.Bool.{cases_eq}
 use Rattle.recording.specs.declared.row.Row.{Row}
 use Rattle.rules.specs.Acceptance.{some, lasting, some_below}
 
-or_assoc : (x y z : Bool) → ((x || y) || z) ≡ (x || (y || z))
-or_assoc true y z = refl
-or_assoc false y z = refl
-
-or_false : (x : Bool) → (x || false) ≡ x
-or_false true = refl
-or_false false = refl
-
 pub some_push : (p : Row → Bool) (held : List Row) (o : Row) → some p (held ++ o ∷ []) ≡ (some p held || p o)
 unfolding some
-some_push p [] o = or_false (p o)
+some_push p [] o = or-false (p o)
 some_push p (x ∷ held) o = ap (λ b. p x || b) (some_push p held o) ∙ sym (or_assoc (p x) (some p held) (p o))
 
 push_cases : (a b c d s : Bool) → ((a && not (b || s)) || ((c && not s) || d)) ≡ ((((a && not b) || c) && not s) || d)
@@ -35,11 +28,7 @@ pub lasting_push :
     (start stop : Row → Bool) (held : List Row) (o : Row)
     → lasting start stop (held ++ o ∷ []) ≡ ((lasting start stop held && not (stop o)) || start o)
 unfolding lasting some
-lasting_push start stop [] o = one (start o)
-  where
-    one : (x : Bool) → ((x && true) || false) ≡ x
-    one true = refl
-    one false = refl
+lasting_push start stop [] o = or-false (start o && true) ∙ and-true (start o)
 lasting_push start stop (x ∷ held) o =
     (λ t. (start x && not (some_push stop held o t)) || lasting_push start stop held o t)
     ∙ push_cases (start x) (some stop held) (lasting start stop held) (start o) (stop o)
@@ -50,12 +39,8 @@ some_below_true zero p k l h = absurd (omega arith)
 some_below_true (suc n) p k l h =
     ⊎_elim
     (λ (e : k ≡ n). ap (λ b. b || some_below n p) (ap p (sym e) ∙ h))
-    (λ (ne : k ≡ n → ⊥). ap (λ b. p n || b) (some_below_true n p k (omega arith) h) ∙ or_true (p n))
+    (λ (ne : k ≡ n → ⊥). ap (λ b. p n || b) (some_below_true n p k (omega arith) h) ∙ or-true (p n))
     (cases_eq k n)
-  where
-    or_true : (x : Bool) → (x || true) ≡ true
-    or_true true = refl
-    or_true false = refl
 
 pub some_below_false : (n : ℕ) (p : ℕ → Bool) → ((k : ℕ) → k < n → p k ≡ false) → some_below n p ≡ false
 unfolding some_below

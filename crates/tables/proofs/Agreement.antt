@@ -1,5 +1,6 @@
 -- Tables agree with what is held at first, and after each accepted operation.
 use Rattle.std.proofs.Common.{◌≡◌, ℕ, ◌<◌, Bool, true, false, cond, eqb, ltb, List, [], ◌∷◌, ◌++◌, map, length, set, replicate, Some, None, Option, sym, refl, ap, ◌∙◌, subst, length-set}
+use Rattle.std.proofs.Math.Bool.{and-false, or-false}
 use borrow.Author.Tests.{clash}
 use Rattle.std.proofs.lemmas.List.{get_or-replicate, length-map}
 use Rattle.recording.specs.Codes.{fork, post, begin, acquire, release, threadexit}
@@ -12,7 +13,6 @@ use Rattle.tables.specs.declared.threads.ThreadRecord.{ThreadRecord}
 use Rattle.tables.specs.Matches.{Matches, ThreadMatches, LockMatches, TaskMatches, table_refusal}
 use Rattle.tables.specs.Records.{thread_at, unstarted}
 use Rattle.tables.specs.Steps.{changed, stepped, freed, relocked, retasked}
-use Rattle.tables.proofs.Bools.{or_false, and_false}
 use Rattle.tables.proofs.LockSteps.{locks_kept}
 use Rattle.tables.proofs.Passed.{Bounded, bounded, Accepted, accepted}
 use Rattle.tables.proofs.TaskSteps.{tasks_kept}
@@ -24,7 +24,7 @@ idle : (initial : ℕ → Bool) (t : ℕ) → ThreadMatches initial [] t (unstar
 unfolding some lasting
 idle initial t =
     record {
-      stage_is = ap (λ known. cond known Created Unknown) (sym (or_false (initial t)));
+      stage_is = ap (λ known. cond known Created Unknown) (sym (or-false (initial t)));
       queue_is = refl;
       looping_is = refl;
       current_is = λ p. refl;
@@ -37,7 +37,7 @@ unheld k = record { holder_is = λ t. refl; holder_small = λ t is. absurd (clas
 
 unposted : (p : ℕ) → TaskMatches [] p (record { posting = None; begun = false })
 unfolding some
-unposted p = record { posted_is = refl; target_is = λ t. refl; position_is = λ b. sym (and_false (ltb b 0)); begun_is = refl }
+unposted p = record { posted_is = refl; target_is = λ t. refl; position_is = λ b. sym (and-false (ltb b 0)); begun_is = refl }
 
 pub none_held :
     (initial : ℕ → Bool) (threads : List ThreadRecord)

@@ -1,5 +1,6 @@
 -- The holders still agree after one more operation.
 use Rattle.std.proofs.Common.{◌≡◌, ℕ, ◌<◌, Bool, true, false, cond, not, ◌&&◌, ◌||◌, eqb, List, [], ◌∷◌, ◌++◌, map, length, set, Some, None, Option, sym, refl, ap, ◌∙◌, subst}
+use Rattle.std.proofs.Math.Bool.{and-false, and-true, or-false}
 use borrow.Author.Tests.{clash}
 use Rattle.std.proofs.lemmas.List.{get_or-map}
 use Rattle.std.proofs.lemmas.Bool.{not-false, eqb-true, eq-eqb}
@@ -11,7 +12,7 @@ use Rattle.tables.specs.Matches.{LockMatches}
 use Rattle.rules.specs.Options.{is_of}
 use Rattle.tables.specs.Records.{is_other, holder_at}
 use Rattle.tables.specs.Steps.{freed, relocked}
-use Rattle.tables.proofs.Bools.{or_false, and_true, and_false, written}
+use Rattle.tables.proofs.Bools.{written}
 use Rattle.tables.proofs.Passed.{Bounded, Accepted}
 use Rattle.tables.proofs.ThreadSteps.{only_one}
 use Rattle.tables.proofs.Verdicts.{some_other}
@@ -53,8 +54,8 @@ acquired :
     (h : Option ℕ) (n t : ℕ) (here : Bool)
     → (here ≡ true → is_of h t ≡ true → n ≡ t)
     → is_of (cond here (Some n) h) t ≡ ((is_of h t && true) || (eqb n t && here))
-acquired h n t false was = sym (ap (λ x. (is_of h t && true) || x) (and_false (eqb n t)) ∙ or_false _ ∙ and_true _)
-acquired h n t true was = go (is_of h t) (was refl) ∙ ap (λ x. (is_of h t && true) || x) (sym (and_true (eqb n t)))
+acquired h n t false was = sym (ap (λ x. (is_of h t && true) || x) (and-false (eqb n t)) ∙ or-false _ ∙ and-true _)
+acquired h n t true was = go (is_of h t) (was refl) ∙ ap (λ x. (is_of h t && true) || x) (sym (and-true (eqb n t)))
   where
     go : (w : Bool) → (w ≡ true → n ≡ t) → eqb n t ≡ ((w && true) || eqb n t)
     go true f = eq-eqb n t (f refl)
@@ -65,7 +66,7 @@ released :
     → (here ≡ true → is_of h n ≡ true)
     → is_of (cond here None h) t ≡ ((is_of h t && not ((eqb n t && here) || false)) || false)
 released h n t false was =
-    sym (or_false _ ∙ ap (λ x. is_of h t && not (x || false)) (and_false (eqb n t)) ∙ and_true (is_of h t))
+    sym (or-false _ ∙ ap (λ x. is_of h t && not (x || false)) (and-false (eqb n t)) ∙ and-true (is_of h t))
 released h n t true was = go (is_of h t) refl
   where
     go : (w : Bool) → is_of h t ≡ w → false ≡ ((w && not ((eqb n t && true) || false)) || false)
@@ -166,7 +167,7 @@ module _ (initial : ℕ → Bool) (held : List Row) (o : Row) (b : Bounded o) (a
         (λ e. acquired h o.thread t (eqb o.item k) (λ here is. was_free e here t is))
         (λ e. released h o.thread t (eqb o.item k) (was_held e))
         (exited h o.thread t)
-        (sym (or_false (is_of h t && true) ∙ and_true (is_of h t)))
+        (sym (or-false (is_of h t && true) ∙ and-true (is_of h t)))
 
     small_kept : (t : ℕ) → is_of (after k o h) t ≡ true → t < 64
     small_kept t =

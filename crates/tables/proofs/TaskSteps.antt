@@ -1,5 +1,6 @@
 -- The task records still agree after one more operation.
 use Rattle.std.proofs.Common.{◌≡◌, ℕ, ◌<◌, ◌≤◌, Bool, true, false, cond, ◌&&◌, ◌||◌, eqb, ltb, List, [], ◌∷◌, ◌++◌, length, set, is_some, Some, None, Option, sym, refl, ap, ◌∙◌, subst, ⊎_elim, arith}
+use Rattle.std.proofs.Math.Bool.{and_comm, and-false, and-true, or-false, or_comm}
 use borrow.Author.Tests.{clash}
 use Rattle.std.proofs.lemmas.List.{get_or_append_left, get_or_push, length_push}
 use Rattle.std.proofs.lemmas.Bool.{and_parts, cond-true, eqb-true, eq-eqb, ne_eqb, lt-ltb, le-ltb, cases_order}
@@ -14,7 +15,7 @@ use Rattle.tables.specs.declared.tasks.TaskRecord.{TaskRecord}
 use Rattle.tables.specs.Matches.{TaskMatches}
 use Rattle.tables.specs.Records.{posted_to, stands_at, task_at}
 use Rattle.tables.specs.Steps.{posted_at, retasked}
-use Rattle.tables.proofs.Bools.{or_false, or_comm, and_true, and_false, updated}
+use Rattle.tables.proofs.Bools.{updated}
 use Rattle.tables.proofs.Passed.{Bounded, Accepted}
 
 -- what the operation makes of the record of task p
@@ -105,7 +106,7 @@ position_push q held o x =
     (⊎_elim
     (λ (l : x < length held).
     (λ i. (lt-ltb x (length held) l i && q (row held x)) || (ne_eqb (length held) x (λ e. omega arith) i && q o))
-    ∙ or_false (q (row held x))
+    ∙ or-false (q (row held x))
     ∙ sym (λ i. within (omega arith) i && q (get_or_append_left held (o ∷ []) blank x l i)))
     (λ (l : length held < x).
     (λ i.
@@ -120,7 +121,7 @@ position_push q held o x =
 module _ (q : Posting) (g : Option Posting) where
   posted_kept : (b : Bool) → is_some (cond b (Some q) g) ≡ (is_some g || b)
   posted_kept true = sym (or_comm (is_some g) true)
-  posted_kept false = sym (or_false (is_some g))
+  posted_kept false = sym (or-false (is_some g))
 
   -- what a test of the posting says after one more operation: a post only where there was none
   test_kept :
@@ -128,7 +129,7 @@ module _ (q : Posting) (g : Option Posting) where
       → (b ≡ true → test g ≡ false)
       → test (cond b (Some q) g) ≡ (test g || (b && test (Some q)))
   test_kept test true new = sym (ap (λ w. w || test (Some q)) (new refl))
-  test_kept test false new = sym (or_false (test g))
+  test_kept test false new = sym (or-false (test g))
 
 module _ (initial : ℕ → Bool) (held : List Row) (o : Row) (b : Bounded o) (a : Accepted initial held o) where
   was_new : (p : ℕ) → is_on post p o ≡ true → posted held p ≡ false
@@ -175,10 +176,6 @@ module _ (initial : ℕ → Bool) (held : List Row) (o : Row) (b : Bounded o) (a
 
       none : is_on post p o ≡ true → is_some r.posting ≡ false
       none e = m.posted_is ∙ was_new p e
-
-      and_comm : (x y : Bool) → (x && y) ≡ (y && x)
-      and_comm true y = sym (and_true y)
-      and_comm false y = sym (and_false y)
 
   pub tasks_kept :
       (tasks : List TaskRecord)

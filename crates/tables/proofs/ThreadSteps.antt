@@ -1,5 +1,6 @@
 -- The thread records still agree after one more operation.
 use Rattle.std.proofs.Common.{◌≡◌, ℕ, ◌<◌, Bool, true, false, cond, not, ◌&&◌, ◌||◌, eqb, List, [], ◌∷◌, ◌++◌, length, set, is_some, Some, None, Option, sym, refl, ap, ◌∙◌, subst}
+use Rattle.std.proofs.Math.Bool.{and-false, and-true, or-false, or_assoc, or_comm}
 use borrow.Author.Tests.{clash}
 use Rattle.std.proofs.lemmas.Bool.{and_parts, or_parts, not-true, eqb-true, eq-eqb}
 use Rattle.recording.specs.Codes.{threadinit, threadexit, fork, attach_q, loop_on_q, begin, end}
@@ -12,7 +13,7 @@ use Rattle.tables.specs.Matches.{ThreadMatches}
 use Rattle.rules.specs.Options.{is_of}
 use Rattle.tables.specs.Records.{stage_of, thread_at}
 use Rattle.tables.specs.Steps.{changed, stepped}
-use Rattle.tables.proofs.Bools.{or_false, or_comm, and_true, and_false, updated}
+use Rattle.tables.proofs.Bools.{updated}
 use Rattle.tables.proofs.Passed.{Bounded, Accepted}
 use Rattle.tables.proofs.Verdicts.{some_busy}
 
@@ -45,8 +46,8 @@ after_is t o r = go (eqb o.code fork) refl
         (b : Bool)
         → cond b (step_by (eqb o.code) false o.item r) r
         ≡ step_by (λ c. eqb o.code c && b) false o.item r
-    own true = λ i. step_by (λ c. sym (and_true (eqb o.code c)) i) false o.item r
-    own false = λ i. step_by (λ c. sym (and_false (eqb o.code c)) i) false o.item r
+    own true = λ i. step_by (λ c. sym (and-true (eqb o.code c)) i) false o.item r
+    own false = λ i. step_by (λ c. sym (and-false (eqb o.code c)) i) false o.item r
 
     go :
         (f : Bool)
@@ -79,7 +80,7 @@ stage_kept true s k false false true hi hg = absurd (clash (sym (hg refl).0))
 stage_kept false true k false false true hi hg = absurd (clash (sym (hg refl).1))
 stage_kept false false true false false true hi hg = refl
 stage_kept false false false false false true hi hg = refl
-stage_kept f s k false false false hi hg = λ i. stage_of (sym (or_false f) i) (sym (or_false s) i) (sym (or_false k) i)
+stage_kept f s k false false false hi hg = λ i. stage_of (sym (or-false f) i) (sym (or-false s) i) (sym (or-false k) i)
 
 current_kept :
     (c : Option ℕ) (begins ends : Bool) (n p : ℕ)
@@ -93,7 +94,7 @@ current_kept c false true n p hb he = go (is_of c p) (he refl)
     go : (w : Bool) → (w ≡ true → eqb n p ≡ true) → false ≡ ((w && not (eqb n p)) || false)
     go true h = λ i. not (sym (h refl) i) || false
     go false h = refl
-current_kept c false false n p hb he = sym (or_false (is_of c p && true) ∙ and_true (is_of c p))
+current_kept c false false n p hb he = sym (or-false (is_of c p && true) ∙ and-true (is_of c p))
 
 current_small_kept :
     (c : Option ℕ) (begins ends : Bool) (n p : ℕ)
@@ -112,10 +113,6 @@ none_of (Some m) e p = absurd (clash (sym e))
 pub only_one : (c : Option ℕ) (m p : ℕ) → is_of c m ≡ true → is_of c p ≡ true → m ≡ p
 only_one None m p a b = absurd (clash a)
 only_one (Some n) m p a b = sym (eqb-true n m a) ∙ eqb-true n p b
-
-or_assoc : (x y z : Bool) → ((x || y) || z) ≡ (x || (y || z))
-or_assoc true y z = refl
-or_assoc false y z = refl
 
 module _ (initial : ℕ → Bool) (held : List Row) (o : Row) (b : Bounded o) (a : Accepted initial held o) where
   was_created : (t : ℕ) → does threadinit t o ≡ true → created held initial t ≡ true

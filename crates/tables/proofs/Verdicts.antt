@@ -1,5 +1,6 @@
 -- Tables that agree with what is held judge as the definitions do.
 use Rattle.std.proofs.Common.{◌≡◌, ℕ, ◌<◌, Bool, true, false, cond, not, ◌&&◌, ◌||◌, eqb, List, [], ◌∷◌, length, is_some, Some, None, Option, sym, refl, ap, ◌∙◌}
+use Rattle.std.proofs.Math.Bool.{and-false, or-false}
 use Rattle.std.proofs.lemmas.Bool.{eqb-true, eq-eqb}
 use Rattle.recording.specs.Codes.{threadinit, fork, join, attach_q, loop_on_q, post, begin, end, acquire, release}
 use Rattle.recording.specs.Faults.{first}
@@ -15,7 +16,7 @@ use Rattle.rules.specs.Fair.{no_discipline}
 use Rattle.tables.specs.Matches.{Matches, ThreadMatches, table_refusal}
 use Rattle.rules.specs.Options.{is_of}
 use Rattle.tables.specs.Records.{is_other, waits_at, stage_of, is_unknown, is_created, is_running, is_finished, thread_at, holder_at, task_at}
-use Rattle.tables.proofs.Bools.{or_false, and_false, guarded}
+use Rattle.tables.proofs.Bools.{guarded}
 use Rattle.tables.proofs.Passed.{Bounded}
 
 -- ---- The stage
@@ -70,7 +71,7 @@ pub some_other :
     → ((m : ℕ) → is_of c m ≡ true → m < n)
     → is_other c t ≡ some_below n (λ u. not (eqb u t) && p u)
 some_other n None p t is small =
-    sym (some_below_false n _ (λ u _. ap (λ b. not (eqb u t) && b) (sym (is u)) ∙ and_false (not (eqb u t))))
+    sym (some_below_false n _ (λ u _. ap (λ b. not (eqb u t) && b) (sym (is u)) ∙ and-false (not (eqb u t))))
 some_other n (Some m) p t is small = go (eqb m t) refl
   where
     go : (b : Bool) → eqb m t ≡ b → not b ≡ some_below n (λ u. not (eqb u t) && p u)
@@ -81,7 +82,7 @@ some_other n (Some m) p t is small = go (eqb m t) refl
     go true e = sym (some_below_false n _ (λ u _. ap (λ b. not (eqb u t) && b) (sym (is u)) ∙ alone u (eqb m u) refl))
       where
         alone : (u : ℕ) (d : Bool) → eqb m u ≡ d → (not (eqb u t) && eqb m u) ≡ false
-        alone u false f = ap (λ b. not (eqb u t) && b) f ∙ and_false (not (eqb u t))
+        alone u false f = ap (λ b. not (eqb u t) && b) f ∙ and-false (not (eqb u t))
         alone u true f =
             let same : eqb u t ≡ true = eq-eqb u t (sym (eqb-true m u f) ∙ eqb-true m t e) in
             ap (λ b. not b && eqb m u) same
@@ -94,9 +95,9 @@ never_overtakes held t p =
     ap (λ x. is_on post p (row held b) && x)
     (some_below_false b _
     (λ a _.
-    ap (λ x. posts_to t (row held a) && x) (and_false (waits held t (item held a)))
-    ∙ and_false (posts_to t (row held a))))
-    ∙ and_false (is_on post p (row held b)))
+    ap (λ x. posts_to t (row held a) && x) (and-false (waits held t (item held a)))
+    ∙ and-false (posts_to t (row held a))))
+    ∙ and-false (is_on post p (row held b)))
 
 module _ (initial : ℕ → Bool) (held : List Row) (tables : Tables) (m : Matches initial held tables) where
   module _ (t : ℕ) (l : t < 64) where
@@ -186,7 +187,7 @@ module _ (initial : ℕ → Bool) (held : List Row) (tables : Tables) (m : Match
             ∙ ap (λ x. busy held o.thread || x)
             (sym
             (ap (λ x. not (waits held o.thread o.item) || x) (never_overtakes held o.thread o.item)
-            ∙ or_false (not (waits held o.thread o.item))))
+            ∙ or-false (not (waits held o.thread o.item))))
 
     pub verdict_is : verdict tables o ≡ table_refusal initial held o
     unfolding table_refusal
@@ -198,5 +199,5 @@ module _ (initial : ℕ → Bool) (held : List Row) (tables : Tables) (m : Match
         ∷ (same_queue i, WrongQueue)
         ∷ (same_lock i, WrongLock)
         ∷ (same_turn i, OutOfTurn)
-        ∷ (sym (and_false (eqb o.code post)) i, NotAdmitted)
+        ∷ (sym (and-false (eqb o.code post)) i, NotAdmitted)
         ∷ [])
