@@ -1,18 +1,17 @@
 -- Tables agree with what is held at first, and after each accepted operation.
-use Rattle.std.proofs.Common.{◌≡◌, ℕ, ◌<◌, Bool, true, false, cond, eqb, ltb, List, [], ◌∷◌, ◌++◌, map, length, set, replicate, Some, None, Option, sym, refl, ap, ◌∙◌, subst, length-set}
-use Rattle.std.proofs.Math.Bool.{and-false, or-false}
-use borrow.Author.Tests.{clash}
-use Rattle.std.proofs.lemmas.List.{get_or-replicate, length-map}
-use Rattle.recording.specs.Codes.{fork, post, begin, acquire, release, threadexit}
+use Rattle.std.proofs.Common.{◌≡◌, ℕ, ◌<◌, Bool, true, false, List, [], ◌∷◌, ◌++◌, length, set, replicate, None, Option, sym, refl, ap, ◌∙◌, subst, arith, length-set}
+use Rattle.std.proofs.lemmas.Grind.{common_steps}
+use Rattle.std.proofs.lemmas.List.{get_or-replicate}
+use Rattle.recording.specs.Codes.{fork}
 use Rattle.recording.specs.Lawful.{lawful}
 use Rattle.recording.specs.declared.row.Row.{Row}
 use Rattle.rules.specs.Acceptance.{some, lasting}
 use Rattle.tables.specs.declared.tables.Tables.{Tables}
-use Rattle.tables.specs.declared.threads.Stage.TheVariants.{Created, Unknown}
+use Rattle.tables.specs.declared.tasks.TaskRecord.{TaskRecord}
 use Rattle.tables.specs.declared.threads.ThreadRecord.{ThreadRecord}
 use Rattle.tables.specs.Matches.{Matches, ThreadMatches, LockMatches, TaskMatches, table_refusal}
 use Rattle.tables.specs.Records.{thread_at, unstarted}
-use Rattle.tables.specs.Steps.{changed, stepped, freed, relocked, retasked}
+use Rattle.tables.specs.Steps.{changed, stepped, relocked, retasked, TakenIn}
 use Rattle.tables.proofs.LockSteps.{locks_kept}
 use Rattle.tables.proofs.Passed.{Bounded, bounded, Accepted, accepted}
 use Rattle.tables.proofs.TaskSteps.{tasks_kept}
@@ -24,20 +23,20 @@ idle : (initial : ℕ → Bool) (t : ℕ) → ThreadMatches initial [] t (unstar
 unfolding some lasting
 idle initial t =
     record {
-      stage_is = ap (λ known. cond known Created Unknown) (sym (or-false (initial t)));
+      stage_is = grind arith;
       queue_is = refl;
       looping_is = refl;
       current_is = λ p. refl;
-      current_small = λ p is. absurd (clash is);
+      current_small = λ p is. grind arith;
     }
 
 unheld : (k : ℕ) → LockMatches [] k None
 unfolding lasting
-unheld k = record { holder_is = λ t. refl; holder_small = λ t is. absurd (clash is) }
+unheld k = record { holder_is = λ t. refl; holder_small = λ t is. grind arith }
 
 unposted : (p : ℕ) → TaskMatches [] p (record { posting = None; begun = false })
 unfolding some
-unposted p = record { posted_is = refl; target_is = λ t. refl; position_is = λ b. sym (and-false (ltb b 0)); begun_is = refl }
+unposted p = record { posted_is = refl; target_is = λ t. refl; position_is = λ b. grind arith; begun_is = refl }
 
 pub none_held :
     (initial : ℕ → Bool) (threads : List ThreadRecord)
@@ -60,31 +59,13 @@ none_held initial threads whole each =
 -- ---- One more is held
 
 changed_small : (o : Row) → Bounded o → changed o < 64
-changed_small o b = go (eqb o.code fork) refl
-  where
-    go : (f : Bool) → eqb o.code fork ≡ f → cond f o.target o.thread < 64
-    go true e = b.target_small fork refl e
-    go false e = b.thread_small
+changed_small o b = let forks = b.target_small fork refl in grind arith
 
 relocked_whole : (o : Row) (holders : List (Option ℕ)) → length (relocked o holders) ≡ length holders
-relocked_whole o holders = go (eqb o.code acquire) (eqb o.code release) (eqb o.code threadexit)
-  where
-    go :
-        (a r x : Bool)
-        → length
-        (cond a (set holders o.item (Some o.thread))
-        (cond r (set holders o.item None) (cond x (map (freed o.thread) holders) holders)))
-        ≡ length holders
-    go true r x = length-set holders o.item _
-    go false true x = length-set holders o.item _
-    go false false true = length-map holders (freed o.thread)
-    go false false false = refl
+relocked_whole o holders = grind (arith, common_steps)
 
-written_whole :
-    {A : Type 0} (xs : List A) (n : ℕ) (x y : A) (a b : Bool) → length (cond a (set xs n x) (cond b (set xs n y) xs)) ≡ length xs
-written_whole xs n x y true b = length-set xs n x
-written_whole xs n x y false true = length-set xs n y
-written_whole xs n x y false false = refl
+retasked_whole : (o : Row) (n : ℕ) (tasks : List TaskRecord) → length (retasked o n tasks) ≡ length tasks
+retasked_whole o n tasks = grind (arith, common_steps)
 
 module _
     (initial : ℕ → Bool) (held : List Row) (o : Row) (tables : Tables) (m : Matches initial held tables)
@@ -101,7 +82,7 @@ module _
         whole = (
           length-set tables.threads (changed o) _ ∙ m.whole.0,
           relocked_whole o tables.holders ∙ m.whole.1,
-          written_whole tables.tasks o.item _ _ (eqb o.code post) (eqb o.code begin) ∙ m.whole.2,
+          retasked_whole o (length held) tables.tasks ∙ m.whole.2,
         );
         threads_match =
             λ t l.
@@ -118,13 +99,13 @@ module _
       found : Accepted initial held o
       found = accepted initial held o none
 
-  pub one_more :
-      (after : Tables)
-      → after.threads ≡ set tables.threads (changed o) (stepped o (thread_at tables.threads (changed o)))
-      → after.holders ≡ relocked o tables.holders
-      → after.tasks ≡ retasked o (length held) tables.tasks
-      → Matches initial (held ++ o ∷ []) after
-  one_more after threads-are holders-are tasks-are =
+  pub one_more : (position : ℕ) → position ≡ length held → (after : Tables) → TakenIn o position tables after → Matches initial (held ++ o ∷ []) after
+  one_more position next after taken =
       subst (Matches initial (held ++ o ∷ []))
-      (λ i. record { threads = sym threads-are i; holders = sym holders-are i; tasks = sym tasks-are i })
+      (λ i.
+      record {
+        threads = sym taken.threads i;
+        holders = sym taken.holders i;
+        tasks = sym (taken.tasks ∙ ap (λ n. retasked o n tables.tasks) next) i;
+      })
       stepped_tables

@@ -1,4 +1,3 @@
-mod Bools
 mod Passed
 pub mod Verdicts
 mod ThreadSteps

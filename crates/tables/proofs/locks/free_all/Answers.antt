@@ -1,6 +1,6 @@
-use Rattle.std.proofs.Common.{◌<◌, ◌≤◌, ◌++◌, map, length, set, None, ap, ◌∙◌, ap₂, append-nil, arith, length-set}
+use Rattle.std.proofs.Common.{◌<◌, length, set, None, ap, ◌∙◌, arith, length-set}
 use Rattle.std.proofs.lemmas.List.Edits.{map_over_more}
-use Rattle.std.proofs.lemmas.List.{take_all, drop_all, get_or_default}
+use Rattle.std.proofs.lemmas.List.{get_or_default}
 use Rattle.tables.specs.Records.{holder_at}
 use Rattle.tables.specs.Steps.{freed}
 use Rattle.tables.proofs.locks.free_all.Goals as goal
@@ -17,12 +17,3 @@ loop-holder-preserved c =
           ∙ map_over_more (freed c.args.thread) xs ys i (holder_at ys i) lx c.loop-holder.invariant.1
           (get_or_default ys i None (holder_at ys i) ly),
     )
-
-pub returns : goal.returns
-returns c =
-    let xs = c.args.holders.now in
-    let i = c.loop-holder.holder-index in
-    let l : length xs ≤ i = omega arith in
-    c.loop-holder.invariant.1
-    ∙ ap₂ (λ a b. map (freed c.args.thread) a ++ b) (take_all i xs l) (drop_all i xs l)
-    ∙ append-nil (map (freed c.args.thread) xs)
