@@ -1,6 +1,6 @@
 //! One call of a run.
 ghost use Rattle.rules.specs.Runs.{Step};
-ghost use Rattle.examination.specs.Exact.{Exact, held, setting_of, SameSetting};
+ghost use Rattle.examination.specs.Holding.{held, setting_of, SameSetting};
 ghost use Rattle.runs.specs.Calls.{call_of, answer_of};
 
 use crate::calls::{Answer, Call};
@@ -9,9 +9,8 @@ use examination::examination::Examination;
 
 /// Makes one call.
 pub(crate) fn make<D: Discipline + Drop>(examination: &mut Examination<D>, call: Call) -> Answer
-    ensures step { Exact D.Discipline.precedence examination.old → Step (setting_of D.Discipline.admission D.Discipline.precedence examination.old) (held examination.old) (call_of call) (answer_of result) (held examination.new) }
+    ensures step { Step (setting_of D.Discipline.admission D.Discipline.precedence examination.old) (held examination.old) (call_of call) (answer_of result) (held examination.new) }
     ensures setting { SameSetting examination.old examination.new }
-    ensures exact { Exact D.Discipline.precedence examination.old → Exact D.Discipline.precedence examination.new }
 {
     match call {
         Call::Add(operation) => match examination.add(operation) {

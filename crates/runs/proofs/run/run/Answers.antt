@@ -3,7 +3,7 @@ use Rattle.std.proofs.lemmas.List.{map-append}
 use Rattle.recording.specs.declared.row.Row.{Row}
 use Rattle.rules.specs.Runs.{Run, done, Step}
 use Rattle.rules.proofs.RenamedRuns.{renamed_runs}
-use Rattle.examination.specs.Exact.{held}
+use Rattle.examination.specs.Holding.{held}
 use Rattle.runs.specs.Calls.{call_of, answer_of}
 use Rattle.rules.specs.Acceptance.{opened}
 use Rattle.runs.proofs.Steps.{run_push, none_left}
@@ -19,7 +19,6 @@ loop-call-init g c =
       subst₂ (λ (vs : List _) (h : List Row). Run s [] [] (map answer_of vs) h) (sym w.items) (sym o.0) done,
       o.1,
       refl,
-      o.3,
       refl,
       ap length w.items,
       omega (arith, ap length c.into_iter-call-iterator.ensures.into_iter_gives.0, w.capacity, c.len.ensures, c.args.calls.ok.0),
@@ -28,10 +27,10 @@ loop-call-init g c =
 pub push_reserved-requires : goal.push_reserved-requires
 push_reserved-requires g c =
     let i = c.loop-call.invariant in
-    let whole = ap length i.4 in
+    let whole = ap length i.3 in
     let split = length-append c.loop-call.yielded c.loop-call.call-iterator.rest.items in
     let step = ap length c.in-Some.ensures.steps.0 in
-    omega (arith, whole, split, step, i.5, i.6, c.loop-call.answers.ok.0)
+    omega (arith, whole, split, step, i.4, i.5, c.loop-call.answers.ok.0)
 
 pub loop-call-preserved : goal.loop-call-preserved
 loop-call-preserved g c =
@@ -46,7 +45,7 @@ loop-call-preserved g c =
     subst₂
     (λ x n.
     Step (opened (g.D.Discipline.admission x) (g.D.Discipline.precedence x) n) (held e) (call_of call) (answer_of made) left)
-    i.2 i.1 (c.make.ensures.step i.3)
+    i.2 i.1 c.make.ensures.step
     in
     let pushed : map answer_of (vec_items c.push_reserved.new.self) ≡ map answer_of (vec_items c.loop-call.answers) ++ answer_of made ∷ [] =
     ap (map answer_of) c.push_reserved.ensures.items ∙ map-append answer_of (vec_items c.loop-call.answers) (made ∷ [])
@@ -55,17 +54,16 @@ loop-call-preserved g c =
       subst₂ (λ xs ys. Run s [] xs ys left) (sym called) (sym pushed) (run_push i.0 step),
       c.make.ensures.setting.1 ∙ i.1,
       c.make.ensures.setting.0 ∙ i.2,
-      c.make.ensures.exact i.3,
       append_assoc c.loop-call.yielded (call ∷ []) c.next.new.self.rest.items
-          ∙ (ap (λ xs. c.loop-call.yielded ++ xs) (sym c.in-Some.ensures.steps.0) ∙ i.4),
+          ∙ (ap (λ xs. c.loop-call.yielded ++ xs) (sym c.in-Some.ensures.steps.0) ∙ i.3),
       omega (
         arith,
         ap length c.push_reserved.ensures.items,
         length-append (vec_items c.loop-call.answers) (made ∷ []),
         length-append c.loop-call.yielded (call ∷ []),
-        i.5,
+        i.4,
       ),
-      omega (arith, c.push_reserved.ensures.capacity, i.6),
+      omega (arith, c.push_reserved.ensures.capacity, i.5),
     )
 
 pub returns : goal.returns
@@ -75,7 +73,7 @@ returns g c =
     let rest = c.loop-call.call-iterator.rest.items in
     let none : length rest ≡ 0 = search rules in
     let all : c.loop-call.yielded ≡ vec_items c.args.calls =
-    none_left c.loop-call.yielded rest (vec_items c.args.calls) none (i.4 ∙ c.into_iter-call-iterator.ensures.into_iter_gives.0)
+    none_left c.loop-call.yielded rest (vec_items c.args.calls) none (i.3 ∙ c.into_iter-call-iterator.ensures.into_iter_gives.0)
     in
     let answers = map answer_of (vec_items c.loop-call.answers) in
     let left = held c.loop-call.examination in

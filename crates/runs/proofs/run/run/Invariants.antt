@@ -1,6 +1,6 @@
 use Rattle.std.proofs.Common.{◌≡◌, ◌≤◌, [], ◌++◌, map, length, vec_items, vec_capacity}
 use Rattle.rules.specs.Runs.{Run}
-use Rattle.examination.specs.Exact.{Exact, held}
+use Rattle.examination.specs.Holding.{held}
 use Rattle.runs.specs.Calls.{call_of, answer_of}
 use Rattle.rules.specs.Acceptance.{opened}
 use Rattle.runs.proofs.run.run.Given as goal
@@ -17,7 +17,6 @@ invariant-loop-call g l =
     (held l.examination)
     × (l.examination.mask ≡ l.mask)
     × (l.examination.discipline ≡ l.initial.examination.discipline)
-    × Exact g.D.Discipline.precedence l.examination
     × (l.yielded ++ l.call-iterator.rest.items ≡ l.initial.call-iterator.rest.items)
     × (length (vec_items l.answers) ≡ length l.yielded)
     × (length l.initial.call-iterator.rest.items ≤ vec_capacity l.answers)
