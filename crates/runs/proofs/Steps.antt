@@ -1,19 +1,23 @@
 -- One call, by what its contract says; and one call more at the end of a run.
-use Rattle.std.proofs.Common.{◌≡◌, ℕ, ◌<◌, ◌≤◌, List, [], ◌∷◌, ◌++◌, length, take, drop, Some, None, sym, ◌∙◌, subst, arith}
+use Rattle.std.proofs.Common.{◌≡◌, ℕ, ◌<◌, ◌≤◌, ◌⊎◌, List, [], ◌∷◌, ◌++◌, length, take, drop, Some, None, sym, ◌∙◌, subst, arith}
 use Rattle.std.proofs.lemmas.List.{append-nil}
 use Rattle.recording.specs.declared.row.Row.{Row}
 use Rattle.happens_before.specs.Order.{Before}
 use Rattle.rules.specs.Acceptance.{Setting, refusal}
-use Rattle.rules.specs.Answers.{Count, RaceList}
+use Rattle.rules.specs.Answers.{Count, Ordered, Classed, RaceList}
 use Rattle.rules.specs.Numbers.{state_number, not_held}
 use Rattle.rules.specs.Runs.{
   Call,
   add,
   cut,
+  order,
+  class,
   list,
   Answer,
   added,
   cut_to,
+  ordered,
+  classed,
   listed,
   needs,
   refused,
@@ -22,6 +26,10 @@ use Rattle.rules.specs.Runs.{
   refuses,
   cuts,
   cuts_not,
+  orders,
+  orders_not,
+  classes,
+  classes_not,
   lists,
   lists_not,
   Run,
@@ -29,6 +37,7 @@ use Rattle.rules.specs.Runs.{
   next,
 }
 use Rattle.rules.specs.declared.faults.StateFault.{StateFault}
+use Rattle.rules.specs.declared.order.Order.{Order}
 use Rattle.rules.specs.declared.race.RaceRow.{RaceRow}
 
 module _ (s : Setting) (held : List Row) where
@@ -49,6 +58,18 @@ module _ (s : Setting) (held : List Row) where
 
   pub step_cuts_not : (n : ℕ) (after : List Row) → length held < n → after ≡ held → Step s held (cut n) (refused not_held) after
   step_cuts_not n after l e = subst (λ x. Step s held (cut n) (refused not_held) x) (sym e) (cuts_not l)
+
+  pub step_orders : (i j : ℕ) (w : Order) → i < length held → j < length held → Ordered s.precedence held i j w → Step s held (order i j) (ordered w) held
+  step_orders i j w = orders
+
+  pub step_orders_not : (i j : ℕ) → (length held ≤ i) ⊎ (length held ≤ j) → Step s held (order i j) (refused not_held) held
+  step_orders_not i j = orders_not
+
+  pub step_classes : (i j c : ℕ) → i < length held → j < length held → Classed s.precedence held i j c → Step s held (class i j) (classed c) held
+  step_classes i j c = classes
+
+  pub step_classes_not : (i j : ℕ) → (length held ≤ i) ⊎ (length held ≤ j) → Step s held (class i j) (refused not_held) held
+  step_classes_not i j = classes_not
 
   pub step_lists :
       (n : ℕ) (places after races : List RaceRow) → RaceList s.precedence held races → n ≡ length races → n ≤ length places
