@@ -1,7 +1,8 @@
 -- Reading the records of a file in turn.
-use Rattle.std.proofs.Common.{◌≡◌, ℕ, ◌+◌, ◌*◌, ◌<◌, ◌≤◌, true, List, [], ◌∷◌, ◌++◌, length, get_or, take, drop, Some, None, sym, refl, ap, ◌∙◌, subst, ⊎_elim, append_assoc, append-nil, arith, length-append, take-add}
+use Rattle.std.proofs.Common.{◌≡◌, ℕ, ◌+◌, ◌*◌, ◌<◌, ◌≤◌, true, List, [], ◌∷◌, ◌++◌, length, get_or, take, drop, Some, None, sym, ap, ◌∙◌, subst, ⊎_elim, append-nil, arith, length-append, take-add}
 use Rattle.std.proofs.lemmas.List.{get_or_append_left, get_or_push, drop-drop, length-drop, length-take, length-take-le, take_all, get_or-take, get_or-drop, get_or_past}
 use Rattle.std.proofs.lemmas.Bool.{cases_lt}
+use Rattle.std.proofs.lemmas.Grind.{flat_map-append}
 use Rattle.recording.specs.declared.row.Row.{Row}
 use Rattle.recording.specs.declared.faults.record.RecordFault.{RecordFault}
 use Rattle.files.specs.Files.{records_of, record_at, count_in, FirstUnlawful}
@@ -12,13 +13,8 @@ use Rattle.recording.specs.Records.{record_of, row_in}
 use Rattle.recording.proofs.LawfulRows.{faultless}
 use Rattle.recording.proofs.RecordBytes.{record_again}
 
-pub records_++ : (xs ys : List Row) → records_of (xs ++ ys) ≡ records_of xs ++ records_of ys
-records_++ [] ys = refl
-records_++ (x ∷ xs) ys =
-    ap (λ b. record_of x ++ b) (records_++ xs ys) ∙ sym (append_assoc (record_of x) (records_of xs) (records_of ys))
-
 pub records_push : (xs : List Row) (r : Row) → records_of (xs ++ r ∷ []) ≡ records_of xs ++ record_of r
-records_push xs r = records_++ xs (r ∷ []) ∙ ap (λ b. records_of xs ++ b) (append-nil (record_of r))
+records_push xs r = flat_map-append record_of xs (r ∷ []) ∙ ap (λ b. records_of xs ++ b) (append-nil (record_of r))
 
 -- the first `number` records are read into `rows`
 pub record ReadSoFar (file records : List ℕ) (number : ℕ) (rows : List Row) : Type 0 where

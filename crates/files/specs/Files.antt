@@ -1,5 +1,6 @@
 -- The bytes of a recording, and what a file is refused for.
 use Rattle.std.specs.Prelude.{◌≡◌, ℕ, ◌+◌, ◌*◌, ◌^◌, ◌<◌, ◌≤◌, Bool, true, not, ◌&&◌, ◌||◌, List, [], ◌∷◌, ◌++◌, length, take, drop, Some, None, Ok, Err, Option, Result, ◌==◌, nat_lt, slice_index}
+use Rattle.std.specs.List.{flat_map}
 use Rattle.recording.specs.declared.row.Row.{Row}
 use Rattle.files.specs.declared.faults.file.FileFault.{FileFault}
 use Rattle.files.specs.declared.faults.file.FileFault.TheVariants.{NotARecording, Version, Discipline, Length}
@@ -26,8 +27,7 @@ pub record Lawful (c : Contents) : Type 0 where
   pub rows : (k : ℕ) → k < length c.rows → lawful (row_at c.rows k) ≡ true
 
 abbrev pub records_of : List Row → List ℕ
-records_of [] = []
-records_of (r ∷ rows) = record_of r ++ records_of rows
+records_of rows = flat_map record_of rows
 
 -- the mark TLR, the discipline, the version, the count and the mask
 abbrev pub header_of : ℕ → ℕ → ℕ → List ℕ

@@ -1,7 +1,6 @@
 -- A record's bytes.
-use Rattle.std.proofs.Common.{◌≡◌, ℕ, ◌<◌, List, [], ◌∷◌, ◌++◌, length, get_or, take, drop, refl, ◌∙◌, arith}
+use Rattle.std.proofs.Common.{◌≡◌, ℕ, ◌<◌, List, ◌∷◌, ◌++◌, length, get_or, take, drop, refl, ◌∙◌, arith}
 use Rattle.recording.specs.declared.row.Row.{Row}
-use Rattle.recording.specs.Bytes.{bytes_of}
 use Rattle.recording.specs.Records.{record_of, row_in}
 use Rattle.recording.proofs.FixedLength.{of_length}
 use Rattle.recording.proofs.LowFirst.{bytes_again, number_again}
