@@ -11,6 +11,7 @@ pub fn close(columns: &[Column], own: &Column, column: &mut Column)
     ensures { Holds column.new (swept columns.now (has own.now) (length columns.now) (has column.old)) }
 {
     let mut end = columns.len();
+    // no chain: the column grows in each turn, and with it the positions to come
     while let Some(k) = column.last_below(end) {
         if own.contains(k) {
             column.join(&columns[k]);

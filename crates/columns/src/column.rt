@@ -59,8 +59,9 @@ impl Column {
     pub fn meets(&self, other: &Column) -> bool
         ensures { (result ≡ true) ↔ Meet (has self.now) (has other.now) }
     {
-        for w in 0..8 {
-            if self.words[w] & other.words[w] != 0 {
+        // no chain: that its items fit 64 bits is not known to a proof
+        for (w, word) in self.words.iter().enumerate() {
+            if word & other.words[w] != 0 {
                 return true;
             }
         }
@@ -72,6 +73,7 @@ impl Column {
         ensures { result ≡ tally (has self.now) 512 }
     {
         let mut n = 0;
+        // no chain: that its items fit 64 bits is not known to a proof
         for word in self.words {
             n += word.count_ones();
         }
@@ -83,6 +85,7 @@ impl Column {
         ensures { MatchOption result (Lacks (has self.now) 0 end) (λ k. LastBelow (has self.now) end k) }
     {
         let mut top = end.min(POSITIONS);
+        // no chain: the first word counts in part, and apart from the others
         while top > 0 {
             let last = top - 1;
             // bit 63 is position `last`, bit 62 the one below it, and so on
