@@ -9,14 +9,13 @@ use Rattle.recording.specs.declared.row.Row.{Row}
 use Rattle.files.specs.Files.{file_fault, count_in, file_row}
 use Rattle.files.proofs.LawfulFiles.{long}
 use Rattle.rules.specs.Acceptance.{Setting, opened, refusal}
-use Rattle.examination.specs.Exact.{setting_of, SameSetting}
-use Rattle.examination.specs.declared.examination.Examination.{Examination}
+use Rattle.examination.specs.Holding.{Holding, setting_of, SameSetting}
 use Rattle.feeding.specs.Feeding.{rows_of, Taken, Takes, Feeds}
 use Rattle.feeding.specs.declared.fault.FeedFault.{FeedFault}
 use Rattle.feeding.specs.declared.fault.FeedFault.TheVariants.{File, Record, State}
 
 pub same_setting :
-    {D : Type 0} (admission : D → Marks → Bool) (precedence : D → Marks → Marks → Bool) (e f : Examination D) → SameSetting e f
+    {D : Type 0} (admission : D → Marks → Bool) (precedence : D → Marks → Marks → Bool) (e f : Holding D) → SameSetting e f
     → setting_of admission precedence f ≡ setting_of admission precedence e
 same_setting admission precedence e f q =
     ap₂ (λ d m. opened (admission d) (precedence d) m) q.0 q.1

@@ -4,7 +4,6 @@ use Rattle.recording.specs.Lawful.{lawful, fault_in}
 use Rattle.recording.specs.declared.row.Row.{Row}
 use Rattle.files.specs.Files.{file_fault, count_in, file_row}
 use Rattle.rules.specs.Acceptance.{Setting, refusal}
-use Rattle.feeding.specs.declared.fault.AtState.{AtState}
 use Rattle.feeding.specs.declared.fault.FeedFault.{FeedFault}
 use Rattle.feeding.specs.declared.fault.FeedFault.TheVariants.{File, Record, State}
 
@@ -43,8 +42,3 @@ Takes s held n o (Err (File f)) after = ⊥
 Takes s held n o (Err (Record at)) after = (at.number ≡ n) × (fault_in o ≡ Some at.fault) × (after ≡ held)
 Takes s held n o (Err (State at)) after =
     (at.number ≡ n) × (lawful o ≡ true) × (refusal s held o ≡ Some at.fault) × (after ≡ held)
-
--- its operation
-abbrev pub AddsAt : Setting → List Row → ℕ → Row → Result Unit AtState → List Row → Type 0
-AddsAt s held n o (Ok _) after = (refusal s held o ≡ None) × (after ≡ held ++ o ∷ [])
-AddsAt s held n o (Err at) after = (at.number ≡ n) × (refusal s held o ≡ Some at.fault) × (after ≡ held)

@@ -2,45 +2,39 @@
 ghost use Rattle.std.specs.Prelude.{◌≡◌};
 ghost use Rattle.feeding.specs.declared.fault.FeedFault.TheVariants.{File, Record, State};
 
+use files::faults::at::At;
 use files::faults::file::FileFault;
-use files::faults::read::AtRecord;
+use recording::faults::record::RecordFault;
 use rules::faults::StateFault;
 
-/// Why the state turns a record away, with the record's number in the file, from 0.
-#[derive(Clone, Copy)]
-pub struct AtState {
-    pub number: usize,
-    pub fault: StateFault,
-}
-
-/// The first fault of a feed, by its layer.
-#[derive(Clone, Copy)]
+/// The first fault of a feed, by its layer; that of a record or of the state with the record's number in the file.
+#[derive(Clone, Copy, PartialEq, Eq, Debug)]
 pub enum FeedFault {
     File(FileFault),
-    Record(AtRecord),
-    State(AtState),
+    Record(At<RecordFault>),
+    State(At<StateFault>),
 }
 
 impl From<FileFault> for FeedFault {
     ghost from_gives = { λ x y. y ≡ File x };
 
-    fn from(value: FileFault) -> FeedFault {
-        FeedFault::File(value)
+    fn from(fault: FileFault) -> FeedFault {
+        FeedFault::File(fault)
     }
 }
 
-impl From<AtRecord> for FeedFault {
+impl From<At<RecordFault>> for FeedFault {
     ghost from_gives = { λ x y. y ≡ Record x };
 
-    fn from(value: AtRecord) -> FeedFault {
-        FeedFault::Record(value)
+    fn from(at: At<RecordFault>) -> FeedFault {
+        FeedFault::Record(at)
     }
 }
 
-impl From<AtState> for FeedFault {
+impl From<At<StateFault>> for FeedFault {
     ghost from_gives = { λ x y. y ≡ State x };
 
-    fn from(value: AtState) -> FeedFault {
-        FeedFault::State(value)
+    fn from(at: At<StateFault>) -> FeedFault {
+        FeedFault::State(at)
     }
 }

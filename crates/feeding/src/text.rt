@@ -11,14 +11,8 @@ impl fmt::Display for FeedFault {
 
     fn fmt<W: fmt::Write>(&self, f: &mut fmt::Formatter<W>) -> fmt::Result {
         match self {
-            FeedFault::File(fault) => {
-                let fault = ReadFault::File(*fault);
-                write!(f, "{fault}")
-            }
-            FeedFault::Record(at) => {
-                let fault = ReadFault::Record(*at);
-                write!(f, "{fault}")
-            }
+            FeedFault::File(fault) => ReadFault::from(*fault).fmt(f),
+            FeedFault::Record(at) => ReadFault::from(*at).fmt(f),
             FeedFault::State(at) => {
                 let number = at.fault.number();
                 let record = at.number;
