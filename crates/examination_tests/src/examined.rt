@@ -1,14 +1,15 @@
 //! Examinations of a few rows, for the tests.
 use dispatch::discipline::Discipline;
 use examination::examination::Examination;
+use recording::code::Code;
 use recording::operation::Operation;
 use recording::row::Row;
 use rules::race::RaceRow;
 use std::test::Fail;
 
-pub(crate) fn row(code: u8, thread: u8, item: u16, target: u8) -> Row {
+pub(crate) fn row(code: Code, thread: u8, item: u16, target: u8) -> Row {
     Row {
-        code,
+        code: code as u8,
         thread,
         item,
         target,
@@ -18,33 +19,28 @@ pub(crate) fn row(code: u8, thread: u8, item: u16, target: u8) -> Row {
     }
 }
 
+fn operation(row: Row) -> Result<Operation, Fail> {
+    Operation::try_from(row).map_err(|_| Fail::new("no lawful record"))
+}
+
 /// Adds the row, and answers how many held operations are before it.
 pub(crate) fn add<D: Discipline + Drop>(
     examination: &mut Examination<D>,
     row: Row,
 ) -> Result<usize, Fail> {
-    let Ok(operation) = Operation::from_row(row) else {
-        return Err(Fail::new("no lawful record"));
-    };
-    match examination.add(operation) {
+    match examination.add(operation(row)?) {
         Ok(added) => Ok(added.before),
         Err(_) => Err(Fail::new("refused")),
     }
 }
 
-/// Whether the state turns the row away with this number.
-pub(crate) fn is_refused<D: Discipline + Drop>(
+/// The number of the fault for which the state turns the row away.
+pub(crate) fn refusal<D: Discipline + Drop>(
     examination: &mut Examination<D>,
     row: Row,
-    number: u8,
-) -> bool {
-    match Operation::from_row(row) {
-        Ok(operation) => match examination.add(operation) {
-            Ok(_) => false,
-            Err(fault) => fault.number() == number,
-        },
-        Err(_) => false,
-    }
+) -> Result<Option<u8>, Fail> {
+    let fault = examination.add(operation(row)?).err();
+    Ok(fault.map(|fault| fault.number()))
 }
 
 pub(crate) fn examined<D: Discipline + Drop>(
@@ -67,26 +63,20 @@ pub(crate) fn races_once<D: Discipline + Drop>(
     later: u16,
     class: u8,
 ) -> bool {
-    let mut places = [RaceRow {
+    let untouched = RaceRow {
         earlier: 7,
         later: 7,
         class: 7,
-    }; 2];
-    match examination.list(&mut places) {
-        Ok(n) => {
-            n == 1
-                && places[0].earlier == earlier
-                && places[0].later == later
-                && places[0].class == class
-                && places[1].class == 7
-        }
-        Err(_) => false,
-    }
+    };
+    let race = RaceRow {
+        earlier,
+        later,
+        class,
+    };
+    let mut places = [untouched; 2];
+    examination.list(&mut places) == Ok(1) && places == [race, untouched]
 }
 
 pub(crate) fn races_never<D: Discipline + Drop>(examination: &Examination<D>) -> bool {
-    match examination.list(&mut []) {
-        Ok(n) => n == 0,
-        Err(_) => false,
-    }
+    examination.list(&mut []) == Ok(0)
 }
