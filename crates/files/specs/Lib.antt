@@ -1,3 +1,4 @@
+pub mod Failures
 pub mod Faults
 pub mod Files
 pub mod Headers

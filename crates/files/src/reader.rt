@@ -1,15 +1,32 @@
 //! The records of a file, one by one.
-ghost use Rattle.std.specs.Prelude.{◌≡◌, ◌-◌, ◌*◌, ◌≤◌, length, drop};
+ghost use Rattle.std.specs.Prelude.{◌≡◌, ◌-◌, ◌*◌, ◌≤◌, true, length, drop, Some, MatchResult};
 ghost use Rattle.std.specs.Iterator.{at_most};
+ghost use Rattle.recording.specs.Lawful.{fault_in, lawful as lawfulRow};
+ghost use Rattle.recording.specs.Records.{row_in};
+ghost use Rattle.recording.specs.Rows.{operation_row};
 
+use crate::faults::at::At;
 use crate::header::HEADER;
+use recording::faults::record::RecordFault;
+use recording::operation::Operation;
 use recording::record::RECORD;
+use recording::row::Row;
 
 /// A record as a part of the file, with its number, from 0.
 #[derive(Clone, Copy)]
 pub struct Record<'a> {
     pub number: usize,
     pub bytes: &'a [u8; RECORD],
+}
+
+impl Record<'_> {
+    /// The record's operation, or its fault with its number.
+    pub fn operation(self) -> Result<Operation, At<RecordFault>>
+        ensures { MatchResult result (λ o. (lawfulRow (row_in self.entry.bytes.now) ≡ true) × (operation_row o ≡ row_in self.entry.bytes.now)) (λ e. (e.number ≡ self.entry.number) × (fault_in (row_in self.entry.bytes.now) ≡ Some e.fault)) }
+    {
+        let number = self.number;
+        Operation::try_from(Row::from_bytes(self.bytes)).map_err(|fault| At { number, fault })
+    }
 }
 
 /// Hands out the records of a file in turn.
@@ -50,5 +67,3 @@ impl<'a> Iterator for Reader<'a> {
         Some(Record { number, bytes })
     }
 }
-
-mod operation;

@@ -1,4 +1,4 @@
-//! What a record is refused for.
+//! What a record is refused for: one test after another, in the order in which they count.
 ghost use Rattle.std.specs.Prelude.{◌≡◌, true, Some, None, MatchResult};
 ghost use Rattle.recording.specs.Codes.{code_number};
 ghost use Rattle.recording.specs.Faults.{first};

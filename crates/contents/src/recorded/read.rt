@@ -1,8 +1,9 @@
 //! Recordings read from files.
-ghost use Rattle.std.specs.Prelude.{◌≡◌, None};
-ghost use Rattle.files.specs.Files.{file_fault};
-ghost use Rattle.contents.specs.Reading.{RowsAnswer};
-ghost use Rattle.contents.specs.Recordings.{Answers};
+ghost use Rattle.std.specs.Prelude.{◌≡◌, Ok, Err, None};
+ghost use Rattle.files.specs.Failures.{MatchFailure};
+ghost use Rattle.files.specs.Files.{Faulty, Reads, file_fault};
+ghost use Rattle.contents.specs.Reading.{RowsRead};
+ghost use Rattle.contents.specs.Recordings.{contents_of};
 
 use crate::recorded::Recording;
 use files::faults::failure::Failure;
@@ -15,7 +16,7 @@ use std::alloc::Global;
 /// The rows of a file whose header is lawful.
 fn read_rows(heap: Global, file: &[u8]) -> Result<Vec<Row>, Failure<ReadFault>>
     requires { file_fault file.now ≡ None }
-    ensures { RowsAnswer file.now result }
+    ensures { MatchFailure result (λ rows. RowsRead file.now rows.items) (Faulty file.now) }
 {
     let mut rows = Vec::new(heap);
     for record in Reader::new(file) {
@@ -27,7 +28,7 @@ fn read_rows(heap: Global, file: &[u8]) -> Result<Vec<Row>, Failure<ReadFault>>
 impl Recording {
     /// What a file says, or its first fault.
     pub fn read(heap: Global, file: &[u8]) -> Result<Recording, Failure<ReadFault>>
-        ensures { Answers file.now result }
+        ensures { MatchFailure result (λ r. Reads file.now (Ok (contents_of r))) (λ f. Reads file.now (Err f)) }
     {
         let header = Header::read(file)?;
         let rows = read_rows(heap, file)?;

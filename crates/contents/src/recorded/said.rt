@@ -1,8 +1,9 @@
 //! What a recording says, and its bytes.
-ghost use Rattle.std.specs.Prelude.{◌≡◌, ◌<◌, ◌≤◌, IfOk, vec_len, MatchOption};
-ghost use Rattle.files.specs.Files.{file_of};
+ghost use Rattle.std.specs.Prelude.{◌≡◌, ◌<◌, ◌≤◌, Ok, Err, IfOk, vec_len, MatchOption};
+ghost use Rattle.files.specs.Failures.{MatchFailure};
+ghost use Rattle.files.specs.Files.{Contents, Reads, file_of};
 ghost use Rattle.recording.specs.Rows.{row_at};
-ghost use Rattle.contents.specs.Recordings.{Copies, contents_of};
+ghost use Rattle.contents.specs.Recordings.{contents_of};
 ghost use Rattle.recording.specs.Rows.{operation_row};
 
 use crate::recorded::Recording;
@@ -60,7 +61,7 @@ impl Recording {
 
 /// A file read and written again.
 pub fn copy(heap: Global, file: &[u8]) -> Result<Vec<u8>, Failure<ReadFault>>
-    ensures { Copies file.now result }
+    ensures { MatchFailure result (λ v. ((c : Contents) × Reads file.now (Ok c)) × (v.items ≡ file.now)) (λ f. Reads file.now (Err f)) }
 {
     Ok(Recording::read(heap, file)?.to_bytes(heap)?)
 }

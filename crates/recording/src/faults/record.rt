@@ -18,7 +18,7 @@ pub enum RecordFault {
 }
 
 impl RecordFault {
-    /// The fault's number.
+    /// The fault's number, which is no discriminant: several faults share one.
     pub fn number(self) -> u8
         ensures { result ≡ record_number self }
     {
