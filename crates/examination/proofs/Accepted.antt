@@ -23,8 +23,8 @@ module _ (s : Setting) (held : List Row) (o : Row) (none : refusal s held o ≡ 
   pub fine : refused_by_tables s.initial held o ≡ false
   fine = not_refused s.initial held o (accepted_allowed s held o (accepted s held o none))
 
-  pub fair_push : lawful o ≡ true → FairTables s.initial held → FairTables s.initial (held ++ o ∷ [])
-  fair_push lawful-o fair = tables_push s.initial held o fair lawful-o fine
+  pub fair_after : lawful o ≡ true → FairTables s.initial held → FairTables s.initial (held ++ o ∷ [])
+  fair_after lawful-o fair = tables_push s.initial held o fair lawful-o fine
 
   pub idle : o.code ≡ begin → busy held o.thread ≡ false
   idle b = (begin_turn s.initial held o (accepted_allowed s held o (accepted s held o none)) b).0

@@ -1,5 +1,6 @@
 -- What the tables do not refuse.
 use Rattle.std.proofs.Common.{◌≡◌, ℕ, Bool, true, false, cond, not, ◌&&◌, ◌||◌, eqb, List, Some, None, refl, ap, ◌∙◌}
+use Rattle.std.proofs.Math.Bool.{and-false, or-false}
 use Rattle.recording.specs.Codes.{post, begin, end}
 use Rattle.recording.specs.declared.row.Row.{Row}
 use Rattle.rules.specs.declared.faults.StateFault.TheVariants.{
@@ -16,14 +17,6 @@ use Rattle.rules.proofs.Fair.{allowed}
 use Rattle.tables.specs.Matches.{table_refusal}
 use Rattle.tables.proofs.Verdicts.{never_overtakes}
 
-pub and_none : (x : Bool) → (x && false) ≡ false
-and_none true = refl
-and_none false = refl
-
-or_none : (x : Bool) → (x || false) ≡ x
-or_none true = refl
-or_none false = refl
-
 pub allowed_none : (initial : ℕ → Bool) (held : List Row) (o : Row) → refused_by_tables initial held o ≡ false → table_refusal initial held o ≡ None
 unfolding table_refusal
 allowed_none initial held o h =
@@ -34,7 +27,7 @@ allowed_none initial held o h =
     (eqb o.code post && posted held o.item)
     || ((eqb o.code begin && (busy held o.thread || x)) || (eqb o.code end && not (current held o.thread o.item))))
     (ap (λ x. not (waits held o.thread o.item) || x) (never_overtakes held o.thread o.item)
-    ∙ or_none (not (waits held o.thread o.item)))
+    ∙ or-false (not (waits held o.thread o.item)))
     ∙ a.in_turn
     in
     λ t.
@@ -42,4 +35,4 @@ allowed_none initial held o h =
     (cond (a.right_target t) (Some WrongTarget)
     (cond (a.right_queue t) (Some WrongQueue)
     (cond (a.right_lock t) (Some WrongLock)
-    (cond (turn t) (Some OutOfTurn) (cond (and_none (eqb o.code post) t) (Some NotAdmitted) None)))))
+    (cond (turn t) (Some OutOfTurn) (cond (and-false (eqb o.code post) t) (Some NotAdmitted) None)))))

@@ -1,6 +1,7 @@
 -- A refusal is for want of room, for what the tables tell, or for what the discipline tells.
 use Rattle.std.proofs.Common.{◌≡◌, ◌<◌, ◌≤◌, Bool, true, false, cond, not, ◌&&◌, ◌||◌, eqb, leb, List, length, Some, None, Option, Result, sym, refl, ap, ◌∙◌, subst, le-leb}
 use borrow.Author.Tests.{lt-leb}
+use Rattle.std.proofs.Math.Bool.{and-false}
 use Rattle.recording.specs.Codes.{post, begin, end}
 use Rattle.recording.specs.Lawful.{or_else}
 use Rattle.recording.specs.declared.row.Row.{Row}
@@ -10,7 +11,6 @@ use Rattle.rules.specs.declared.faults.StateFault.TheVariants.{Full, ThreadNotRe
 use Rattle.tables.specs.Matches.{table_refusal}
 use Rattle.tables.proofs.Verdicts.{never_overtakes}
 use Rattle.examination.specs.Refusals.{Judged, discipline_refusal}
-use Rattle.examination.proofs.Allowed.{and_none}
 
 -- out of turn with a task that overtakes, and without
 turn_parts :
@@ -61,7 +61,7 @@ module _ (s : Setting) (held : List Row) (o : Row) where
       || (not (waits held o.thread o.item) || never_overtakes held o.thread o.item i)))
       || (eqb o.code end && not (current held o.thread o.item))))
       (Some OutOfTurn)
-      (cond (and_none (eqb o.code post) i) (Some NotAdmitted) None))
+      (cond (and-false (eqb o.code post) i) (Some NotAdmitted) None))
       (discipline_refusal s held o)))))))
 
   pub when_full : 512 ≤ length held → refusal s held o ≡ Some Full

@@ -4,7 +4,7 @@ use Rattle.columns.specs.Positions.{has}
 use Rattle.happens_before.specs.Order.{Before}
 use Rattle.rules.specs.Acceptance.{refusal}
 use Rattle.examination.specs.Holding.{setting_of}
-use Rattle.examination.proofs.Accepted.{fair_push, idle}
+use Rattle.examination.proofs.Accepted.{fair_after, idle}
 use Rattle.examination.proofs.examination.Examination.column_of.Goals as goal
 
 pub returns : goal.returns
@@ -18,5 +18,5 @@ returns g c =
     subst₂
     (λ d h. (i : ℕ) → (has c.predecessors.result i ≡ true) ↔ Before (g.D.Discipline.precedence d) (h ++ o ∷ []) i (length h))
     past.discipline_is past.rows_are
-    (c.predecessors.ensures.before (bit e.mask) past.agrees (fair_push s rows o none c.args.operation.lawful past.fair)
+    (c.predecessors.ensures.before (bit e.mask) past.agrees (fair_after s rows o none c.args.operation.lawful past.fair)
     past.column_each past.right (c.task_of.ensures.member (bit e.mask) rows past.agrees.matches (idle s rows o none)))

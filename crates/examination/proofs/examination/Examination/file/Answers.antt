@@ -12,7 +12,7 @@ use Rattle.races.specs.declared.nearest.NearestPosts.{NearestPosts}
 use Rattle.races.proofs.Nearests.{nearest_right_push}
 use Rattle.examination.specs.Exact.{Exact}
 use Rattle.examination.specs.Holding.{held}
-use Rattle.examination.proofs.Accepted.{seen_accepted, room, fine, fair_push}
+use Rattle.examination.proofs.Accepted.{seen_accepted, room, fine, fair_after}
 use Rattle.examination.proofs.Pushed.{sound_push, right_push, counted}
 use Rattle.examination.proofs.examination.Examination.file.Goals as goal
 
@@ -65,7 +65,7 @@ invariant_of-self g c =
     let (spare, x) = c.self.invariant in
     let k = x.sound in
     let l = room s rows o none in
-    let first = posted_first initial (rows ++ o ∷ []) (fair_push s rows o none lawful-o k.fair) in
+    let first = posted_first initial (rows ++ o ∷ []) (fair_after s rows o none lawful-o k.fair) in
     let column = c.column_of-column.result in
     let nearest = c.nearest_of-nearest.result in
     let newest : (i : ℕ) → (has column i ≡ true) ↔ Before P (rows ++ o ∷ []) i (length rows) =

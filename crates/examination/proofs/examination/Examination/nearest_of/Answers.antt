@@ -6,7 +6,7 @@ use Rattle.rules.proofs.Fair.{posted_first}
 use Rattle.tables.specs.Matches.{Matches}
 use Rattle.races.specs.Chains.{no_posts, NearestTo, NearestRight, NearestOfAdded}
 use Rattle.examination.specs.Holding.{held, setting_of}
-use Rattle.examination.proofs.Accepted.{fair_push, idle}
+use Rattle.examination.proofs.Accepted.{fair_after, idle}
 use Rattle.examination.proofs.examination.Examination.nearest_of.Goals as goal
 
 pub returns : goal.returns
@@ -21,7 +21,7 @@ returns g c =
     let nearests = c.races.result.nearests.now in
     let found = c.nearest_of.result in
     let matches = subst (λ h. Matches initial h c.past.result.tables.now) past.rows_are past.agrees.matches in
-    let fair = fair_push s rows o c.requires c.args.operation.lawful (subst (FairTables initial) past.rows_are past.fair) in
+    let fair = fair_after s rows o c.requires c.args.operation.lawful (subst (FairTables initial) past.rows_are past.fair) in
     let tasks = c.task_of.ensures.member initial rows matches (idle s rows o c.requires) in
     let each = lent.nearest_each ∙ ap length lent.rows_are in
     let near : NearestRight (rows ++ o ∷ []) (nearests ++ found ∷ []) =
