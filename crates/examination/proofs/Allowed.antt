@@ -1,5 +1,5 @@
 -- What the tables do not refuse.
-use Rattle.std.proofs.Common.{◌≡◌, ℕ, Bool, true, false, cond, not, ◌&&◌, ◌||◌, eqb, List, Some, None, refl, ap, ◌∙◌}
+use Rattle.std.proofs.Common.{◌≡◌, ℕ, Bool, false, cond, not, ◌&&◌, ◌||◌, eqb, List, Some, None, ap, ◌∙◌}
 use Rattle.std.proofs.Math.Bool.{and-false, or-false}
 use Rattle.recording.specs.Codes.{post, begin, end}
 use Rattle.recording.specs.declared.row.Row.{Row}

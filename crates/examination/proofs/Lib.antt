@@ -1,4 +1,5 @@
 mod Allowed
+mod Asked
 mod Turns
 mod Refused
 mod Pushed

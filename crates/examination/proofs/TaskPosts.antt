@@ -1,8 +1,7 @@
 -- The post of the task that a new operation belongs to.
-use Rattle.std.proofs.Common.{◌≡◌, ℕ, ◌<◌, Bool, true, false, cond, eqb, ltb, ◌↔◌, List, [], ◌∷◌, ◌++◌, length, take, Some, None, Option, sym, refl, ap, ◌∙◌, subst, arith, length-append, lt-ltb, eq-eqb, eqb-true}
+use Rattle.std.proofs.Common.{◌≡◌, ℕ, ◌<◌, Bool, true, false, cond, eqb, ltb, ◌↔◌, List, [], ◌∷◌, ◌++◌, length, take, Some, None, Option, sym, refl, ap, ◌∙◌, subst, arith, length-append, eq-eqb, eqb-true}
 use borrow.Author.Tests.{clash}
 use Rattle.std.proofs.lemmas.List.{take_at}
-use Rattle.std.proofs.lemmas.Bool.{cond-true}
 use Rattle.recording.specs.Codes.{has_task}
 use Rattle.recording.specs.declared.row.Row.{Row}
 use Rattle.happens_before.specs.Race.{TaskPost}
@@ -17,7 +16,7 @@ use Rattle.tables.specs.declared.tasks.Posting.{Posting}
 use Rattle.index.specs.Indexed.{member_at}
 use Rattle.index.proofs.Kept.{row_earlier, row_newest}
 use Rattle.ordering.proofs.Members.{member_sound, member_full}
-use Rattle.ordering.proofs.Postings.{posted_at_lem, posted_there, posted_never}
+use Rattle.examination.proofs.Asked.{posted_here, posted_nowhere_else, unposted}
 
 module _
     (initial : ℕ → Bool) (held : List Row) (o : Row) (tables : Tables) (task : Option ℕ)
@@ -57,39 +56,31 @@ module _
         let at = row_earlier held o a (omega arith) in
         (sym (λ t. (at t).code) ∙ h.0, sym (λ t. (at t).item) ∙ h.1)
 
-    posting_is : (p : ℕ) → p < 512 → cond (ltb p 512) (task_at tables.tasks p).posting None ≡ (task_at tables.tasks p).posting
-    posting_is p l = cond-true (ltb p 512) (task_at tables.tasks p).posting None (lt-ltb p 512 l)
-
     pub found :
         (p : ℕ) (x : Posting) → task ≡ Some p → cond (ltb p 512) (task_at tables.tasks p).posting None ≡ Some x
         → (a : ℕ) → (eqb x.position a ≡ true) ↔ TaskPost T (length held) a
     found p x e f a =
-        let b = belongs p (ap (λ q. is_of q p) e ∙ eq-eqb p p refl) in
-        let l = small p b in
-        let is = (matches.tasks_match p l).position_is in
-        let g = sym (posting_is p l) ∙ f in
-        let at = posted_at_lem held p _ is x g in (
+        let l = small p (belongs p (ap (λ q. is_of q p) e ∙ eq-eqb p p refl)) in
+        let at = posted_here initial held tables matches p l x f in (
           λ h.
               let q : x.position ≡ a = eqb-true _ _ h in
               let r = row_earlier held o x.position at.0 in
-              (p, b, subst (λ k. Posts T k p) q ((λ t. (r t).code) ∙ at.1.0, (λ t. (r t).item) ∙ at.1.1)),
+              (p, belongs p (ap (λ q. is_of q p) e ∙ eq-eqb p p refl), subst (λ k. Posts T k p) q ((λ t. (r t).code) ∙ at.1.0, (λ t. (r t).item) ∙ at.1.1)),
           λ h.
               let same : p ≡ h.0 = eqb-true p h.0 (sym (ap (λ q. is_of q h.0) e) ∙ is_task h.0 h.1) in
-              eq-eqb _ _ (posted_there held p _ is x g a (subst (Posts held a) (sym same) (earlier_post h.0 a h.1 h.2))),
+              eq-eqb _ _ (posted_nowhere_else initial held tables matches p l x f a (subst (Posts held a) (sym same) (earlier_post h.0 a h.1 h.2))),
         )
 
     pub not_found :
         (p : ℕ) → task ≡ Some p → cond (ltb p 512) (task_at tables.tasks p).posting None ≡ None
         → (a : ℕ) → (false ≡ true) ↔ TaskPost T (length held) a
     not_found p e f a =
-        let b = belongs p (ap (λ q. is_of q p) e ∙ eq-eqb p p refl) in
-        let l = small p b in
-        let is = (matches.tasks_match p l).position_is in (
+        let l = small p (belongs p (ap (λ q. is_of q p) e ∙ eq-eqb p p refl)) in (
           λ h. absurd (clash h),
           λ h.
               let same : p ≡ h.0 = eqb-true p h.0 (sym (ap (λ q. is_of q h.0) e) ∙ is_task h.0 h.1) in
               absurd
-              (posted_never held p _ is (sym (posting_is p l) ∙ f) a (subst (Posts held a) (sym same) (earlier_post h.0 a h.1 h.2))),
+              (unposted initial held tables matches p l f a (subst (Posts held a) (sym same) (earlier_post h.0 a h.1 h.2))),
         )
 
     pub no_task : task ≡ None → (a : ℕ) → (false ≡ true) ↔ TaskPost T (length held) a

@@ -1,5 +1,4 @@
-use Rattle.std.proofs.Common.{◌≡◌, ℕ, ◌<◌, Bool, true, false, ltb, take, None, sym, ap, ◌∙◌, subst, arith, lt-ltb, rules}
-use Rattle.std.proofs.lemmas.Bool.{cond-true}
+use Rattle.std.proofs.Common.{◌≡◌, ℕ, ◌<◌, Bool, true, false, take, sym, ap, ◌∙◌, subst, arith, rules}
 use Rattle.std.proofs.lemmas.Iterator.{YieldsList-from_slice, cases_from_any}
 use Rattle.std.proofs.lemmas.List.{get_or-take, get_or_default, length-take-le}
 use Rattle.recording.specs.Rows.{blank}
@@ -7,8 +6,7 @@ use Rattle.recording.specs.declared.row.Row.{Row}
 use Rattle.happens_before.specs.Theorems.{InRange}
 use Rattle.happens_before.specs.Trace.{row, Posts}
 use Rattle.tables.specs.Matches.{Matches}
-use Rattle.tables.specs.Records.{task_at}
-use Rattle.ordering.proofs.Postings.{posted_at_lem, posted_there, posted_never}
+use Rattle.examination.proofs.Asked.{posted_here, posted_nowhere_else, unposted}
 use Rattle.examination.specs.Refusals.{goes_ahead}
 use Rattle.examination.proofs.Turns.{never_posted, posted_once}
 use Rattle.examination.proofs.turn.is_overtaken.Goals as goal
@@ -18,10 +16,8 @@ returns-in_default g c initial matches ranged =
     let rows = c.args.past.now.rows.now in
     let n = c.number.result in
     let same : n ≡ c.args.task.number = c.number.ensures.0 in
-    let is = (matches.tasks_match n c.number.ensures.1).position_is in
-    let record_is = cond-true (ltb n 512) (task_at c.args.past.now.tables.now.tasks n).posting None (lt-ltb n 512 c.number.ensures.1) in
     never_posted rows c.args.task.number _
-    (λ b p. posted_never rows n _ is (sym (c.in_default.ensures ∙ record_is)) b (subst (Posts rows b) (sym same) p))
+    (λ b p. unposted initial rows c.args.past.now.tables.now matches n c.number.ensures.1 (sym c.in_default.ensures) b (subst (Posts rows b) (sym same) p))
 
 pub returns : goal.returns
 returns g c initial matches ranged =
@@ -30,11 +26,9 @@ returns g c initial matches ranged =
     let P = g.D.Discipline.precedence c.args.past.now.discipline.now in
     let n = c.number.result in
     let same : n ≡ c.args.task.number = c.number.ensures.0 in
-    let is = (matches.tasks_match n c.number.ensures.1).position_is in
-    let record_is = cond-true (ltb n 512) (task_at c.args.past.now.tables.now.tasks n).posting None (lt-ltb n 512 c.number.ensures.1) in
     let x = c.in-Some.posting in
     let b = x.position in
-    let at = posted_at_lem rows n _ is x (sym (c.in-Some.ensures ∙ record_is)) in
+    let at = posted_here initial rows c.args.past.now.tables.now matches n c.number.ensures.1 x (sym c.in-Some.ensures) in
     let ahead = goes_ahead P rows t in
     let post = c.in-Some-get.post.now in
     let tells : Bool → Row → Type 0 =
@@ -52,7 +46,7 @@ returns g c initial matches ranged =
     (λ r q k. k.met.1) (λ r q k. (search rules, k.met.1))
     in
     posted_once rows c.args.task.number (λ b a. ahead (row rows b) (row rows a)) b at.0 (subst (Posts rows b) same at.1)
-    (λ k h. posted_there rows n _ is x (sym (c.in-Some.ensures ∙ record_is)) k (subst (Posts rows k) (sym same) h))
+    (λ k h. posted_nowhere_else initial rows c.args.past.now.tables.now matches n c.number.ensures.1 x (sym c.in-Some.ensures) k (subst (Posts rows k) (sym same) h))
     c.any.result found
     (λ h. let l : h.0 < b = omega (arith, h.1, long) in (h.0, l, tells_at true h.0 l (h.2 blank)))
     (λ none a l. tells_at false a l (none a blank (omega arith) (omega (arith, l, long))))
