@@ -1,11 +1,11 @@
 -- Traces that agree up to n: they hold n rows, these are alike, and tasks are posted before they begin. Their order is one.
-use Rattle.std.proofs.Common.{◌≡◌, ℕ, ◌<◌, ◌≤◌, ◌↔◌, List, length, ap, arith}
+use Rattle.std.proofs.Common.{◌≡◌, ℕ, ◌<◌, ◌≤◌, ◌↔◌, List, length, arith}
+use Rattle.std.proofs.lemmas.Grind.{common_steps}
 use Rattle.recording.specs.declared.row.Row.{Row}
 use Rattle.happens_before.specs.Order.{Precedence, Before, Lacked}
 use Rattle.happens_before.specs.Theorems.{PostedFirst}
-use Rattle.happens_before.proofs.Alike.{Alike, kind, alike_sym, code_alike, posts_alike}
+use Rattle.happens_before.proofs.Alike.{Alike}
 use Rattle.happens_before.proofs.Columns.{hb_alike}
-use Rattle.happens_before.proofs.Posted.{post_held}
 use Rattle.happens_before.proofs.Least.{before_same, lacked_same}
 
 pub record Agree (n : ℕ) (xs ys : List Row) : Type 0 where
@@ -16,8 +16,7 @@ pub record Agree (n : ℕ) (xs ys : List Row) : Type 0 where
   pub posted' : PostedFirst ys
 
 pub agree_sym : {n : ℕ} {xs ys : List Row} → Agree n xs ys → Agree n ys xs
-agree_sym g =
-    record { alike = alike_sym g.alike; held = g.held'; held' = g.held; posted = g.posted'; posted' = g.posted }
+agree_sym g = grind (arith, common_steps)
 
 -- where ys holds no more than is alike, it posts first as xs does
 pub agree_from :
@@ -27,16 +26,7 @@ pub agree_from :
     → length ys ≡ n
     → PostedFirst xs
     → Agree n xs ys
-agree_from n xs ys a lx ly first =
-    record { alike = a; held = lx; held' = omega arith; posted = first; posted' = first' }
-  where
-    first' : PostedFirst ys
-    first' b j l c p =
-        let jn : j < n = omega arith in
-        let bl = post_held ys b _ p in
-        let back = alike_sym a in
-        first b j (omega arith) (code_alike n ys xs back j _ jn c)
-        (posts_alike n ys xs back b j (omega arith) jn (ap kind c) p)
+agree_from n xs ys a lx ly first = grind (arith, common_steps)
 
 module _ {n : ℕ} {xs ys : List Row} (g : Agree n xs ys) (D : Precedence) (i j : ℕ) (l : j < n) where
   pub before_agree : Before D xs i j ↔ Before D ys i j

@@ -1,12 +1,12 @@
 -- Traces that are alike up to a position: the same codes and marks, and the same numbers equal to one another.
-use Rattle.std.proofs.Common.{◌≡◌, ℕ, ◌<◌, ◌≤◌, true, cond, ◌⊎◌, ◌↔◌, List, sym, refl, ap, ◌∙◌, subst, subst₂, inl, inr, arith}
+use Rattle.std.proofs.Common.{◌≡◌, ℕ, ◌<◌, true, cond, ◌⊎◌, ◌↔◌, List, sym, refl, ap, ◌∙◌, subst, subst₂, inl, inr, arith}
+use Rattle.std.proofs.lemmas.Grind.{common_steps}
 use Rattle.recording.specs.Codes.{has_task, has_lock, has_location, has_target}
-use Rattle.recording.specs.Posts.{marks_in}
 use Rattle.recording.specs.declared.row.Row.{Row}
 use Rattle.happens_before.specs.Trace.{row, code, thread, item, target, marks, Belongs, Posts}
 use Rattle.happens_before.specs.Order.{Precedence, Pairs, Handover}
 use Rattle.happens_before.proofs.Tested.{same_answer}
-use Rattle.happens_before.proofs.Rules.{Base, program_order, task_order, attach_order, enable_order, post_order, fork_order, join_order, lock_order, queue_order, run_to_completion, test_base, base, Through, test_through, through}
+use Rattle.happens_before.proofs.Rules.{Base, program_order, task_order, attach_order, enable_order, post_order, fork_order, join_order, lock_order, queue_order, run_to_completion, test_base, base, through}
 
 -- what the item of an operation is
 pub data Kind : Type 0 where
@@ -33,47 +33,11 @@ pub record Alike (n : ℕ) (xs ys : List Row) : Type 0 where
       → (item xs i ≡ item xs j) ↔ (item ys i ≡ item ys j)
 
 pub alike_sym : {n : ℕ} {xs ys : List Row} → Alike n xs ys → Alike n ys xs
-alike_sym a =
-    record {
-      codes = λ i l. sym (a.codes i l);
-      marked = λ i l. sym (a.marked i l);
-      threads = λ i j l u. let t = a.threads i j l u in (t.1, t.0);
-      targets =
-          λ i j l u h. let t = a.targets i j l u (ap has_target (a.codes i l) ∙ h) in (t.1, t.0);
-      items =
-          λ i j l u h.
-          let t = a.items i j l u (ap kind (a.codes i l) ∙ (h ∙ sym (ap kind (a.codes j u)))) in
-          (t.1, t.0);
-    }
-
-pub alike_less : {n : ℕ} {xs ys : List Row} (m : ℕ) → m ≤ n → Alike n xs ys → Alike m xs ys
-alike_less m le a =
-    record {
-      codes = λ i l. a.codes i (omega arith);
-      marked = λ i l. a.marked i (omega arith);
-      threads = λ i j l u. a.threads i j (omega arith) (omega arith);
-      targets = λ i j l u. a.targets i j (omega arith) (omega arith);
-      items = λ i j l u. a.items i j (omega arith) (omega arith);
-    }
+alike_sym a = grind (arith, common_steps)
 
 -- the same rows up to n
 pub alike_rows : (n : ℕ) (xs ys : List Row) → ((i : ℕ) → i < n → row xs i ≡ row ys i) → Alike n xs ys
-alike_rows n xs ys same =
-    record {
-      codes = λ i l. ap (λ r. r.code) (same i l);
-      marked = λ i l. ap marks_in (same i l);
-      threads = λ i j. fields (λ r. r.thread) (λ r. r.thread) i j;
-      targets = λ i j l u _. fields (λ r. r.target) (λ r. r.thread) i j l u;
-      items = λ i j l u _. fields (λ r. r.item) (λ r. r.item) i j l u;
-    }
-  where
-    fields :
-        (f g : Row → ℕ) (i j : ℕ)
-        → i < n
-        → j < n
-        → (f (row xs i) ≡ g (row xs j)) ↔ (f (row ys i) ≡ g (row ys j))
-    fields f g i j l u =
-        (λ e. sym (ap f (same i l)) ∙ (e ∙ ap g (same j u)), λ e. ap f (same i l) ∙ (e ∙ sym (ap g (same j u))))
+alike_rows n xs ys same = grind (arith, common_steps)
 
 pub alike_refl : (n : ℕ) (xs : List Row) → Alike n xs xs
 alike_refl n xs = alike_rows n xs xs (λ i l. refl)
@@ -125,13 +89,7 @@ module _ (n : ℕ) (xs ys : List Row) (a : Alike n xs ys) where
     is_task x c p k = ap kind p ∙ k
 
     pub base_to : ((k b : ℕ) → b < j → R k b ≡ true → S k b ≡ true) → Base D xs R i j → Base D ys S i j
-    base_to w (program_order (p, q)) =
-        program_order (
-          (a.threads i j i_below jn).0 p,
-          λ l li c t.
-              let ln : l < n = omega arith in
-              q l li (code_back l _ ln c) ((a.threads l i ln i_below).1 t),
-        )
+    base_to w (program_order (p, q)) = grind (arith, common_steps)
     base_to w (task_order (p, v, u)) =
         let b = v.0 in
         let le = v.1 in
@@ -143,29 +101,12 @@ module _ (n : ℕ) (xs ys : List Row) (a : Alike n xs ys) where
           belongs_alike i b i_below bn k (subst (Belongs xs i) e v),
           belongs_alike j b jn bn k (subst (Belongs xs j) e u),
         )
-    base_to w (attach_order (p, q, r, s)) =
-        attach_order (
-          code_alike i _ i_below p,
-          code_alike j _ jn q,
-          (a.targets j i jn i_below (ap has_target q)).0 r,
-          λ e. s ((a.threads j i jn i_below).1 e),
-        )
-    base_to w (enable_order (p, q, r)) =
-        enable_order (code_alike i _ i_below p, code_alike j _ jn q, (item_alike i j _ _ i_below jn p q refl).0 r)
-    base_to w (post_order (p, q, r)) =
-        post_order (code_alike i _ i_below p, code_alike j _ jn q, (item_alike i j _ _ i_below jn p q refl).0 r)
-    base_to w (fork_order (p, q, r)) =
-        fork_order (code_alike i _ i_below p, code_alike j _ jn q, (a.targets i j i_below jn (ap has_target p)).0 r)
-    base_to w (join_order (p, q, r)) =
-        join_order
-        (code_alike i _ i_below p, code_alike j _ jn q, sym ((a.targets j i jn i_below (ap has_target q)).0 (sym r)))
-    base_to w (lock_order (p, q, r, s)) =
-        lock_order (
-          code_alike i _ i_below p,
-          code_alike j _ jn q,
-          (item_alike i j _ _ i_below jn p q refl).0 r,
-          λ e. s ((a.threads i j i_below jn).1 e),
-        )
+    base_to w (attach_order (p, q, r, s)) = grind (arith, common_steps)
+    base_to w (enable_order (p, q, r)) = grind (arith, common_steps)
+    base_to w (post_order (p, q, r)) = grind (arith, common_steps)
+    base_to w (fork_order (p, q, r)) = grind (arith, common_steps)
+    base_to w (join_order (p, q, r)) = grind (arith, common_steps)
+    base_to w (lock_order (p, q, r, s)) = grind (arith, common_steps)
     base_to w (queue_order (t, (x, b, xj, bj, p, q, r, d))) =
         let xn : x < n = omega arith in
         let bn : b < n = omega arith in
@@ -199,10 +140,6 @@ module _ (n : ℕ) (xs ys : List Row) (a : Alike n xs ys) where
           ),
         )
 
-  pub through_to : (j i k : ℕ) → j < n → i < n → k < n → Through xs j i k → Through ys j i k
-  through_to j i k l u v (inl e) = inl ((a.threads k j v l).0 e)
-  through_to j i k l u v (inr e) = inr (λ f. e ((a.threads i j u l).1 f))
-
 -- ---- So the tests of the rules give the same
 
 module _ (n : ℕ) (xs ys : List Row) (a : Alike n xs ys) where
@@ -219,6 +156,4 @@ module _ (n : ℕ) (xs ys : List Row) (a : Alike n xs ys) where
 
   pub through_alike : (j i k : ℕ) → j < n → i < n → k < n → through xs j i k ≡ through ys j i k
   unfolding through
-  through_alike j i k l u v =
-      same_answer (test_through xs j i k) (test_through ys j i k)
-      (through_to n xs ys a j i k l u v) (through_to n ys xs (alike_sym a) j i k l u v)
+  through_alike j i k l u v = grind (arith, common_steps)

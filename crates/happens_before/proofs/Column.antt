@@ -1,8 +1,9 @@
 -- One column of an ordering: which positions are before j, computed from j - 1 down to 0.
 -- A list of answers begins at some position m: its first answer is that of m.
 use Rattle.std.proofs.Common.{◌≡◌, ℕ, zero, suc, ◌<◌, ◌≤◌, Bool, true, false, cond, ◌&&◌, ◌||◌, eqb, ◌⊎◌, List, [], ◌∷◌, sym, refl, ap, ◌∙◌, subst, inl, inr, ⊎_elim, arith, eq-eqb, ne_eqb}
+use Rattle.std.proofs.lemmas.Grind.{common_steps}
 use borrow.Author.Tests.{clash}
-use Rattle.std.proofs.lemmas.Bool.{and_parts, and_from, or_cases, or_left, or_right, cases_eq}
+use Rattle.std.proofs.lemmas.Bool.{and_from, or_cases, or_left, or_right, cases_eq}
 
 abbrev pub bit : ℕ → ℕ → List Bool → Bool
 bit m i [] = false
@@ -53,10 +54,7 @@ module _ (base : ℕ → Bool) (T through : ℕ → ℕ → Bool) where
           ((c && (T i m && through i m)) ≡ true) ⊎ (reach base T through i (suc m) cs ≡ true)
           → (reach base T through i (suc m) cs ≡ true → Reached T through i (suc m) cs)
           → Reached T through i m (c ∷ cs)
-      go (inl e) _ =
-          let a = and_parts c _ e in
-          let b = and_parts (T i m) _ a.1 in
-          (m, bit_here m c cs ∙ a.0, b.0, b.1)
+      go (inl e) _ = grind (arith, common_steps)
       go (inr e) ih =
           let r = ih e in
           let f : suc m ≤ r.0 = bit_from (suc m) r.0 cs r.1 in
@@ -150,9 +148,7 @@ module _ (base : ℕ → Bool) (T through : ℕ → ℕ → Bool) (j : ℕ) wher
           → (suc k ≤ i → i < j → Due i (suc k) acc → bit (suc k) i acc ≡ true)
           → (i ≡ k → ⊥)
           → bit k i (B ∷ acc) ≡ true
-      there (inl b) ih n = bit_past k i B acc n ∙ ih (omega arith) u (inl b)
-      there (inr r) ih n =
-          bit_past k i B acc n ∙ ih (omega arith) u (inr (r.0, r.1, later r.0 r.1 r.2, r.3, r.4))
+      there r ih n = grind (arith, common_steps)
 
   falling_least :
       (Q : ℕ → Type 0)

@@ -1,6 +1,7 @@
 -- What is added later, or cut off, changes nothing among the rows before it.
 use Rattle.std.proofs.Common.{◌≡◌, ℕ, ◌<◌, ◌≤◌, ◌↔◌, List, ◌++◌, length, take, sym, refl, ◌∙◌, ⊎_elim, arith, length-append}
-use Rattle.std.proofs.lemmas.List.{get_or_append_left, length-take, get_or-take}
+use Rattle.std.proofs.lemmas.Grind.{common_steps}
+use Rattle.std.proofs.lemmas.List.{get_or_append_left, length-take}
 use Rattle.std.proofs.lemmas.Bool.{cases_lt}
 use Rattle.recording.specs.declared.row.Row.{Row}
 use Rattle.recording.specs.Rows.{blank}
@@ -40,9 +41,7 @@ module _ (n : ℕ) (trace : List Row) where
   cut_length = let e = length-take n trace in omega arith
 
   pub alike_cut : Alike (length (take n trace)) trace (take n trace)
-  alike_cut =
-      alike_rows (length (take n trace)) trace (take n trace)
-      (λ i l. let c = cut_length in sym (get_or-take n trace i blank (omega arith)))
+  alike_cut = grind (arith, common_steps)
 
   pub agree_cut : PostedFirst trace → Agree (length (take n trace)) trace (take n trace)
   agree_cut = agree_from (length (take n trace)) trace (take n trace) alike_cut cut_length.1 refl

@@ -1,5 +1,6 @@
 -- The computed ordering is closed, and within every closed one.
-use Rattle.std.proofs.Common.{◌≡◌, ℕ, zero, suc, ◌<◌, ◌≤◌, true, false, ◌⊎◌, ◌↔◌, List, length, sym, ◌∙◌, inl, inr, ⊎_elim, arith}
+use Rattle.std.proofs.Common.{◌≡◌, ℕ, zero, suc, ◌<◌, true, false, ◌⊎◌, ◌↔◌, List, length, sym, ◌∙◌, inl, inr, ⊎_elim, arith}
+use Rattle.std.proofs.lemmas.Grind.{common_steps}
 use borrow.Author.Tests.{both_ways}
 use Rattle.std.proofs.lemmas.Bool.{cases_eq, cases_Bool}
 use Rattle.recording.specs.declared.row.Row.{Row}
@@ -16,16 +17,10 @@ module _
     (rising : (k b : ℕ) → R k b ≡ true → k < b) (i j : ℕ) (lj : j < length trace)
   where
     pub early_queue_order : QueueOrder D trace R i j → EarlyQueueOrder D trace R i j
-    early_queue_order (t, (a, b, p, q, r, d)) =
-        let bj : b < j = first b j lj t.1 q in
-        let ab : a < b = rising a b r in
-        (t, (a, b, omega arith, bj, p, q, r, d))
+    early_queue_order (t, (a, b, p, q, r, d)) = grind (arith, common_steps)
 
     pub early_run_to_completion : RunToCompletion trace R i j → EarlyRunToCompletion trace R i j
-    early_run_to_completion (t, (k, b, p, q, r)) =
-        let bj : b < j = first b j lj t.1 q in
-        let kb : k ≤ b = ⊎_elim (λ e. omega arith) (λ e. let l = rising k b e in omega arith) r in
-        (t, (k, b, omega arith, bj, p, q, r))
+    early_run_to_completion r = grind (arith, common_steps)
 
 module _ (D : Precedence) (trace : List Row) where
   pub hb_given : (i j : ℕ) → i < j → j < length trace → Base D trace (hb D trace) i j → hb D trace i j ≡ true

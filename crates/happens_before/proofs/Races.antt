@@ -1,15 +1,12 @@
 -- Traces that agree have the same races, of the same classes; and a pair has one class.
-use Rattle.std.proofs.Common.{◌≡◌, ℕ, ◌<◌, true, false, ◌⊎◌, ◌↔◌, List, length, is_some, sym, refl, ap, ◌∙◌, subst, inl, inr, arith}
+use Rattle.std.proofs.Common.{◌≡◌, ℕ, ◌<◌, ◌⊎◌, ◌↔◌, List, length, sym, refl, ◌∙◌, inl, inr, arith}
+use Rattle.std.proofs.lemmas.Grind.{common_steps}
 use Rattle.recording.specs.declared.row.Row.{Row}
-use Rattle.happens_before.specs.Trace.{code, thread, item, Belongs, Posts}
+use Rattle.happens_before.specs.Trace.{thread}
 use Rattle.happens_before.specs.Order.{Precedence}
 use Rattle.happens_before.specs.Race.{Conflict, Race, TaskPost, Nearest, first, later, Environment, Delayed, Foreign, Apart}
 use Rattle.happens_before.specs.Race.{MultiThreaded, CoEnabled, DelayApart, CrossPosted, Class, multi_threaded, co_enabled, delayed, cross_posted, unknown}
 use Rattle.happens_before.specs.Theorems.{PostedFirst, SameBelow}
-use Rattle.happens_before.proofs.Tested.{Tested, equal, both, either}
-use Rattle.happens_before.proofs.Columns.{hb}
-use Rattle.happens_before.proofs.Least.{lacked_hb}
-use Rattle.happens_before.proofs.Alike.{kind, task, code_alike, item_alike, posts_alike, belongs_alike}
 use Rattle.happens_before.proofs.Agree.{Agree, agree_sym, before_agree, lacked_agree}
 
 -- ---- A chain goes back
@@ -17,9 +14,7 @@ use Rattle.happens_before.proofs.Agree.{Agree, agree_sym, before_agree, lacked_a
 module _ (trace : List Row) (posted : PostedFirst trace) where
   -- the post stands before the begin of the task, of which i is at or behind it
   pub task_post_earlier : (i a : ℕ) → i < length trace → TaskPost trace i a → a < i
-  task_post_earlier i a l (p, (b, bi, (c, t, e), o), q) =
-      let ab : a < b = posted a b (omega arith) c (subst (Posts trace a) (sym e) q) in
-      omega arith
+  task_post_earlier i a l p = grind (arith, common_steps)
 
   pub nearest_earlier : (P : ℕ → Type 0) {i a : ℕ} → Nearest trace P i a → i < length trace → a < i
   nearest_earlier P (first t p) l = task_post_earlier _ _ l t
@@ -28,48 +23,14 @@ module _ (trace : List Row) (posted : PostedFirst trace) where
       let a = nearest_earlier P h (omega arith) in
       omega arith
 
--- the first post that fits is one, where an operation has one task and a task one post
-pub nearest_one :
-    (trace : List Row)
-    → ((i a b : ℕ) → TaskPost trace i a → TaskPost trace i b → a ≡ b)
-    → (P : ℕ → Type 0) {i a b : ℕ}
-    → Nearest trace P i a
-    → Nearest trace P i b
-    → a ≡ b
-nearest_one trace one P (first t p) (first t' p') = one _ _ _ t t'
-nearest_one trace one P (first t p) (later t' n h) = absurd (n (subst P (one _ _ _ t t') p))
-nearest_one trace one P (later t n h) (first t' p') = absurd (n (subst P (one _ _ _ t' t) p'))
-nearest_one trace one P (later t n h) (later {a = b} t' n' h') =
-    nearest_one trace one P h (subst (λ x. Nearest trace P x b) (one _ _ _ t' t) h')
-
 -- ---- From one trace to one that agrees with it
 
 module _ {n : ℕ} {xs ys : List Row} (g : Agree n xs ys) where
-  code_to : (i c : ℕ) → i < n → code xs i ≡ c → code ys i ≡ c
-  code_to = code_alike n xs ys g.alike
-
   conflict_to : (i j : ℕ) → i < n → j < n → Conflict xs i j → Conflict ys i j
-  conflict_to i j l u (e, inl (p, q)) =
-      ((item_alike n xs ys g.alike i j _ _ l u p q refl).0 e, inl (code_to i _ l p, code_to j _ u q))
-  conflict_to i j l u (e, inr (inl (p, q))) =
-      ((item_alike n xs ys g.alike i j _ _ l u p q refl).0 e, inr (inl (code_to i _ l p, code_to j _ u q)))
-  conflict_to i j l u (e, inr (inr (p, q))) =
-      ((item_alike n xs ys g.alike i j _ _ l u p q refl).0 e, inr (inr (code_to i _ l p, code_to j _ u q)))
+  conflict_to i j l u c = grind (arith, common_steps)
 
   task_post_to : (i a : ℕ) → i < n → TaskPost xs i a → TaskPost ys i a
-  task_post_to i a l (p, v, q) =
-      let b = v.0 in
-      let le = v.1 in
-      let h = g.held in
-      let e : p ≡ item xs b = sym v.2.2 in
-      let q' = subst (Posts xs a) e q in
-      let bn : b < n = omega arith in
-      let ab : a < b = g.posted a b (omega arith) v.2.0 q' in
-      let k : kind (code xs b) ≡ task = ap kind v.2.0 in (
-        item ys b,
-        belongs_alike n xs ys g.alike i b l bn k (subst (Belongs xs i) e v),
-        posts_alike n xs ys g.alike a b (omega arith) bn k q',
-      )
+  task_post_to i a l p = grind (arith, common_steps)
 
   -- of a fact that the two traces have of the same positions
   nearest_to :
@@ -90,28 +51,19 @@ module _ {n : ℕ} {xs ys : List Row} (g : Agree n xs ys) where
       later (task_post_to i b l t) (λ q. p ((same b bn).1 q)) (nearest_to P Q same r bn)
 
   environment_same : (b : ℕ) → b < n → Environment xs b ↔ Environment ys b
-  environment_same b l =
-      let e = g.alike.marked b l in
-      (subst (λ m. m.environment ≡ true) e, subst (λ m. m.environment ≡ true) (sym e))
+  environment_same b l = grind (arith, common_steps)
 
   delayed_same : (b : ℕ) → b < n → Delayed xs b ↔ Delayed ys b
-  delayed_same b l =
-      let e = g.alike.marked b l in
-      (subst (λ m. is_some m.delay ≡ true) e, subst (λ m. is_some m.delay ≡ true) (sym e))
+  delayed_same b l = grind (arith, common_steps)
 
   foreign_same : (i : ℕ) → i < n → (b : ℕ) → b < n → Foreign xs (thread xs i) b ↔ Foreign ys (thread ys i) b
-  foreign_same i u b l =
-      let t = g.alike.threads b i l u in
-      (λ f e. f (t.1 e), λ f e. f (t.0 e))
+  foreign_same i u b l = grind (arith, common_steps)
 
 -- ---- So they have the same of each
 
 module _ {n : ℕ} {xs ys : List Row} (g : Agree n xs ys) where
   pub conflict_agree : (i j : ℕ) → i < n → j < n → Conflict xs i j ↔ Conflict ys i j
   conflict_agree i j l u = (conflict_to g i j l u, conflict_to (agree_sym g) i j l u)
-
-  pub task_post_agree : (i a : ℕ) → i < n → TaskPost xs i a ↔ TaskPost ys i a
-  task_post_agree i a l = (task_post_to g i a l, task_post_to (agree_sym g) i a l)
 
   pub nearest_agree :
       (P Q : ℕ → Type 0)
@@ -212,22 +164,6 @@ module _ {n : ℕ} {xs ys : List Row} (g : Agree n xs ys) (D : Precedence) (i j 
 
 -- ---- Races by the computed order
 
-abbrev pub test_conflict : (trace : List Row) (i j : ℕ) → Tested (Conflict trace i j)
-test_conflict trace i j =
-    both (equal _ _)
-    (λ _.
-    either (both (equal _ _) (λ _. equal _ _))
-    (λ _. either (both (equal _ _) (λ _. equal _ _)) (λ _. both (equal _ _) (λ _. equal _ _))))
-
-pub race_hb :
-    (D : Precedence) (trace : List Row)
-    → PostedFirst trace
-    → (i j : ℕ)
-    → Race D trace i j ↔ ((i < j) × (j < length trace) × Conflict trace i j × (hb D trace i j ≡ false))
-race_hb D trace posted i j =
-    let e = lacked_hb D trace posted i j in
-    (λ (ij, l, c, o). (ij, l, c, e.0 o), λ (ij, l, c, o). (ij, l, c, e.1 o))
-
 -- ---- One class
 
 -- the number k where P holds, and else what Q says
@@ -239,10 +175,7 @@ One Q = (c d : ℕ) → Q c → Q d → c ≡ d
 
 falls_one : (P : Type 0) (k : ℕ) (Q : ℕ → Type 0) → One Q → One (Falls P k Q)
 unfolding Falls One
-falls_one P k Q one c d (inl (p, e)) (inl (q, f)) = e ∙ sym f
-falls_one P k Q one c d (inl (p, e)) (inr (n, q)) = absurd (n p)
-falls_one P k Q one c d (inr (n, p)) (inl (q, f)) = absurd (n q)
-falls_one P k Q one c d (inr (n, p)) (inr (m, q)) = one c d p q
+falls_one P k Q one c d f g = grind (arith, common_steps)
 
 module _ (D : Precedence) (trace : List Row) (i j : ℕ) where
   Falling : ℕ → Type 0

@@ -1,5 +1,6 @@
 -- A renaming leaves a trace alike, and so its order as it was.
-use Rattle.std.proofs.Common.{◌≡◌, ℕ, ◌<◌, Bool, true, false, cond, ◌↔◌, List, map, length, sym, refl, ap, ◌∙◌, subst, ⊎_elim, arith}
+use Rattle.std.proofs.Common.{◌≡◌, ℕ, ◌<◌, Bool, true, cond, ◌↔◌, List, map, length, sym, ap, ◌∙◌, subst, ⊎_elim, arith}
+use Rattle.std.proofs.lemmas.Grind.{common_steps}
 use lib.ListN.{length-map}
 use Rattle.std.proofs.lemmas.List.{get_or-map}
 use Rattle.std.proofs.lemmas.Bool.{cases_lt}
@@ -49,10 +50,7 @@ item_by :
     (m : Renaming) (t l o : Bool) (x : ℕ)
     → cond t (m.tasks.to x) (cond l (m.locks.to x) (cond o (m.locations.to x) x)) ≡ item_to m (kind_by t l o) x
 unfolding item_to
-item_by m true l o x = refl
-item_by m false true o x = refl
-item_by m false false true x = refl
-item_by m false false false x = refl
+item_by m t l o x = grind (arith, common_steps)
 
 fits_by :
     (t l o : Bool) (x : ℕ)
@@ -61,10 +59,7 @@ fits_by :
     → (o ≡ true → x < 65536)
     → Fits (kind_by t l o) x
 unfolding Fits
-fits_by true l o x p q r = p refl
-fits_by false true o x p q r = q refl
-fits_by false false true x p q r = r refl
-fits_by false false false x p q r = tt
+fits_by t l o x p q r = grind (arith, common_steps)
 
 module _ (m : Renaming) (trace : List Row) (ranged : AllInRange trace) where
   new : List Row

@@ -1,5 +1,6 @@
 -- A test for each rule at positions i < j. Those of queue order and run to completion look only at posts before j.
-use Rattle.std.proofs.Common.{◌≡◌, ℕ, suc, ◌<◌, ◌≤◌, Bool, true, ◌⊎◌, List, sym, subst, inl, inr, arith}
+use Rattle.std.proofs.Common.{◌≡◌, ℕ, suc, ◌<◌, ◌≤◌, Bool, true, ◌⊎◌, List, sym, subst, arith}
+use Rattle.std.proofs.lemmas.Grind.{common_steps}
 use Rattle.recording.specs.Codes.{loop_on_q, begin, end}
 use Rattle.recording.specs.declared.row.Row.{Row}
 use Rattle.happens_before.specs.Trace.{code, thread, item, marks, Does, Belongs, Posts}
@@ -165,28 +166,10 @@ module _ (D : Precedence) (trace : List Row) (R : Pairs) (i j : ℕ) where
       ⊎ (LockOrder trace i j ⊎ (EarlyQueueOrder D trace R i j ⊎ EarlyRunToCompletion trace R i j))))))))
 
   pub named : Sum → Base D trace R i j
-  named (inl r) = program_order r
-  named (inr (inl r)) = task_order r
-  named (inr (inr (inl r))) = attach_order r
-  named (inr (inr (inr (inl r)))) = enable_order r
-  named (inr (inr (inr (inr (inl r))))) = post_order r
-  named (inr (inr (inr (inr (inr (inl r)))))) = fork_order r
-  named (inr (inr (inr (inr (inr (inr (inl r))))))) = join_order r
-  named (inr (inr (inr (inr (inr (inr (inr (inl r)))))))) = lock_order r
-  named (inr (inr (inr (inr (inr (inr (inr (inr (inl r))))))))) = queue_order r
-  named (inr (inr (inr (inr (inr (inr (inr (inr (inr r))))))))) = run_to_completion r
+  named s = grind (arith, common_steps)
 
   pub unnamed : Base D trace R i j → Sum
-  unnamed (program_order r) = inl r
-  unnamed (task_order r) = inr (inl r)
-  unnamed (attach_order r) = inr (inr (inl r))
-  unnamed (enable_order r) = inr (inr (inr (inl r)))
-  unnamed (post_order r) = inr (inr (inr (inr (inl r))))
-  unnamed (fork_order r) = inr (inr (inr (inr (inr (inl r)))))
-  unnamed (join_order r) = inr (inr (inr (inr (inr (inr (inl r))))))
-  unnamed (lock_order r) = inr (inr (inr (inr (inr (inr (inr (inl r)))))))
-  unnamed (queue_order r) = inr (inr (inr (inr (inr (inr (inr (inr (inl r))))))))
-  unnamed (run_to_completion r) = inr (inr (inr (inr (inr (inr (inr (inr (inr r))))))))
+  unnamed b = grind (arith, common_steps)
 
   unfoldable pub test_base : Tested ((i < j) × Base D trace R i j)
   test_base =

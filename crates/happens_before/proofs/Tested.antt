@@ -1,8 +1,9 @@
 -- A fact with a test that tells whether it holds. What stands behind `λ _.` is computed only where it is asked.
-use Rattle.std.proofs.Common.{◌≡◌, ℕ, zero, suc, ◌<◌, ◌≤◌, Bool, true, false, not, ◌&&◌, ◌||◌, eqb, ltb, leb, ◌⊎◌, subst, inl, inr, ⊎_elim, arith, ltb-true, lt-ltb, eq-eqb, eqb-true, le-leb, leb-true}
+use Rattle.std.proofs.Common.{◌≡◌, ℕ, zero, suc, ◌<◌, ◌≤◌, Bool, true, false, not, ◌&&◌, ◌||◌, eqb, ltb, leb, ◌⊎◌, subst, ⊎_elim, arith, ltb-true, lt-ltb, eq-eqb, eqb-true, le-leb, leb-true}
+use Rattle.std.proofs.lemmas.Grind.{common_steps}
 use borrow.Author.Tests.{clash}
 use Rattle.std.proofs.lemmas.Bool.{and_parts, and_from, or_cases, or_left, or_right, cases_eq}
-use Rattle.std.proofs.lemmas.Bool.Decides.{Decides-not, Decides-or, same_from_decides}
+use Rattle.std.proofs.lemmas.Bool.Decides.{Decides-not, Decides-or}
 
 pub record Tested (P : Type 0) : Type 0 where
   pub answer : Bool
@@ -11,8 +12,7 @@ pub record Tested (P : Type 0) : Type 0 where
 
 -- two tests of facts that follow from one another
 pub same_answer : {P Q : Type 0} (s : Tested P) (t : Tested Q) → (P → Q) → (Q → P) → s.answer ≡ t.answer
-same_answer s t f g =
-    same_from_decides s.answer t.answer (s.sound, s.full) (λ e. g (t.sound e), λ p. t.full (f p))
+same_answer s t f g = grind (arith, common_steps)
 
 abbrev pub holds : (b : Bool) → Tested (b ≡ true)
 holds b = record { answer = b; sound = λ h. h; full = λ h. h }
@@ -80,8 +80,7 @@ any_sound f (suc n) h = go (or_cases (f n) (any_below n f) h) (any_sound f n)
         (f n ≡ true) ⊎ (any_below n f ≡ true)
         → (any_below n f ≡ true → (k : ℕ) × (k < n) × (f k ≡ true))
         → (k : ℕ) × (k < suc n) × (f k ≡ true)
-    go (inl e) ih = (n, omega arith, e)
-    go (inr e) ih = let r = ih e in let l = r.1 in (r.0, omega arith, r.2)
+    go e ih = grind (arith, common_steps)
 
 pub any_full : (f : ℕ → Bool) (n k : ℕ) → k < n → f k ≡ true → any_below n f ≡ true
 unfolding any_below

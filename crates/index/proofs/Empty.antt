@@ -1,12 +1,10 @@
 -- Sets of empty columns.
-use Rattle.std.proofs.Common.{◌≡◌, ℕ, ◌<◌, Bool, ◌&&◌, ltb, replicate, get_or, sym, ap, ◌∙◌, arith, le-ltb}
-use Rattle.std.proofs.lemmas.List.{get_or-replicate}
+use Rattle.std.proofs.Common.{◌≡◌, ℕ, ◌<◌, Bool, ◌&&◌, ltb, replicate, get_or, arith}
+use Rattle.std.proofs.lemmas.Grind.{common_steps}
 use Rattle.columns.specs.declared.column.Column.{Column}
 use Rattle.columns.specs.Positions.{has, Holds, none}
 
 pub empty_sets :
     {A : Type 0} (column : A → Column) (n : ℕ) (x d : A) → Holds (column x) none → (b : Bool) (k i : ℕ) → k < n
     → has (column (get_or (replicate n x) k d)) i ≡ (ltb i 0 && b)
-empty_sets column n x d h b k i l =
-    ap (λ y. has (column y) i) (get_or-replicate n k x d l)
-    ∙ (h i ∙ sym (ap (λ y. y && b) (le-ltb i 0 (omega arith))))
+empty_sets column n x d h b k i l = grind (arith, common_steps)

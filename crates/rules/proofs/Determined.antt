@@ -1,6 +1,6 @@
 -- The definitions allow one answer to each call, and one outcome of each run.
-use Rattle.std.proofs.Common.{◌≡◌, ℕ, ◌<◌, true, ◌&&◌, ltb, ◌⊎◌, List, [], ◌∷◌, ◌++◌, length, drop, Some, None, Option, sym, refl, ap, ◌∙◌, subst, inl, inr, ⊎_elim, arith, ltb-true, lt-ltb}
-use Rattle.std.proofs.lemmas.Bool.{and_parts, and_from}
+use Rattle.std.proofs.Common.{◌≡◌, ℕ, ◌<◌, ◌&&◌, ltb, ◌⊎◌, List, [], ◌∷◌, ◌++◌, length, drop, Some, None, Option, sym, refl, ap, ◌∙◌, subst, inl, inr, ⊎_elim, arith}
+use Rattle.std.proofs.lemmas.Grind.{common_steps}
 use Rattle.std.proofs.lemmas.Bool.Decides.{same_from_decides}
 use Rattle.recording.specs.declared.row.Row.{Row}
 use Rattle.columns.proofs.Counts.{tally_same}
@@ -11,8 +11,7 @@ use Rattle.rules.specs.declared.order.Order.{Order}
 use Rattle.rules.specs.declared.race.RaceRow.{RaceRow}
 use Rattle.rules.specs.Acceptance.{Setting, refusal}
 use Rattle.rules.specs.Answers.{Count, Ordered, same, before, after, unordered, Classed, no_race, race, In, here, there, Rises, Rising, RaceList}
-use Rattle.rules.specs.Numbers.{state_number}
-use Rattle.rules.specs.Runs.{Call, Answer, added, ordered, classed, listed, needs, refused, Step, adds, refuses, cuts, cuts_not, orders, orders_not, classes, classes_not, lists, lists_not, Run, done, next}
+use Rattle.rules.specs.Runs.{Call, Answer, added, ordered, classed, listed, needs, Step, adds, refuses, cuts, cuts_not, orders, orders_not, classes, classes_not, lists, lists_not, Run, done, next}
 
 -- ---- Counts
 
@@ -30,25 +29,7 @@ rising_pairs held i j = ltb i j && ltb j (length held)
 
 rising_closed : (D : Precedence) (held : List Row) → Closed D held (rising_pairs held)
 unfolding rising_pairs
-rising_closed D held =
-    record {
-      rising = λ i j e. let (a, b) = and_parts (ltb i j) _ e in (ltb-true _ _ a, ltb-true _ _ b);
-      program_order = λ i j l u _. pair i j l u;
-      task_order = λ i j l u _. pair i j l u;
-      attach_order = λ i j l u _. pair i j l u;
-      enable_order = λ i j l u _. pair i j l u;
-      post_order = λ i j l u _. pair i j l u;
-      fork_order = λ i j l u _. pair i j l u;
-      join_order = λ i j l u _. pair i j l u;
-      lock_order = λ i j l u _. pair i j l u;
-      queue_order = λ i j l u _. pair i j l u;
-      run_to_completion = λ i j l u _. pair i j l u;
-      thread_transitivity = λ i j l u _. pair i j l u;
-      cross_thread_transitivity = λ i j l u _. pair i j l u;
-    }
-  where
-    pair : (i j : ℕ) → i < j → j < length held → (ltb i j && ltb j (length held)) ≡ true
-    pair i j l u = and_from (ltb i j) _ (lt-ltb _ _ l) (lt-ltb _ _ u)
+rising_closed D held = grind (arith, common_steps)
 
 pub before_rises : (D : Precedence) (held : List Row) (i j : ℕ) → IsBefore D held i j → i < j
 before_rises D held i j b = ((rising_closed D held).rising i j (b (rising_pairs held) (rising_closed D held))).0
@@ -91,10 +72,7 @@ in_cases r q rows here = inl refl
 in_cases r q rows (there i) = inr i
 
 rises_not : (q r : RaceRow) → Rises q r → Rises r q → ⊥
-rises_not q r (inl a) (inl b) = omega arith
-rises_not q r (inl a) (inr b) = omega arith
-rises_not q r (inr a) (inl b) = omega arith
-rises_not q r (inr a) (inr b) = omega arith
+rises_not q r a b = grind (arith, common_steps)
 
 rises_self : (q r : RaceRow) → Rises q r → r ≡ q → ⊥
 rises_self q r h e = rises_not q r h (subst (λ x. Rises x q) (sym e) (subst (Rises q) e h))
@@ -156,9 +134,7 @@ module _ (s : Setting) (held : List Row) where
   step_one (adds {o = o} e n) (adds f m) = (ap (added (length held)) (count_one _ _ _ _ n m), refl)
   step_one (adds {o = o} e n) (refuses f) = absurd (not_both (refusal s held o) _ e f)
   step_one (refuses {o = o} e) (adds f m) = absurd (not_both (refusal s held o) _ f e)
-  step_one (refuses {o = o} {f = x} e) (refuses {f = y} f) =
-      let z : x ≡ y = cc in
-      (ap (λ f. refused (state_number f)) z, refl)
+  step_one (refuses {o = o} {f = x} e) (refuses {f = y} f) = grind (arith, common_steps)
   step_one (cuts l) (cuts u) = (refl, refl)
   step_one (cuts l) (cuts_not u) = absurd (omega arith)
   step_one (cuts_not l) (cuts u) = absurd (omega arith)

@@ -1,21 +1,19 @@
 -- What a list gives whose operations were each accepted on what stood before.
-use Rattle.std.proofs.Common.{◌≡◌, ℕ, ◌<◌, ◌≤◌, Bool, true, false, not, ◌&&◌, ◌||◌, eqb, List, [], ◌∷◌, ◌++◌, length, take, None, sym, refl, ap, ◌∙◌, subst, subst₂, ⊎_elim, arith, eq-eqb, eqb-true, leb-false}
-use borrow.Author.Tests.{not-true, not-false, both_ways, lt-leb}
-use Rattle.std.proofs.lemmas.List.{get_or_append_left, get_or_push, length_push, length-take, take-append-le, take_at, take-take}
-use Rattle.std.proofs.lemmas.Bool.{cases_order, cases_lt, cases_Bool, and_parts, and_from, or_parts}
+use Rattle.std.proofs.Common.{◌≡◌, ℕ, ◌<◌, ◌≤◌, Bool, true, false, ◌&&◌, ◌||◌, eqb, List, [], ◌∷◌, ◌++◌, length, take, None, sym, refl, ap, ◌∙◌, subst, ⊎_elim, arith, eq-eqb, eqb-true, leb-false}
+use Rattle.std.proofs.lemmas.Grind.{common_steps}
+use borrow.Author.Tests.{both_ways}
+use Rattle.std.proofs.lemmas.List.{length-take}
+use Rattle.std.proofs.lemmas.Bool.{cases_order, cases_lt, and_parts, and_from, or_parts}
 use Rattle.recording.specs.Codes.{post, begin, end}
-use Rattle.recording.specs.Faults.{first}
 use Rattle.recording.specs.Lawful.{lawful}
 use Rattle.recording.specs.declared.row.Row.{Row}
 use Rattle.recording.proofs.LawfulRows.{passed, thread_fits, target_fits, task_fits, lock_fits, item_fits}
 use Rattle.happens_before.specs.Trace.{row, code, thread, item, Does, Belongs, Posts}
-use Rattle.recording.specs.Rows.{blank}
 use Rattle.happens_before.specs.Race.{TaskPost}
 use Rattle.happens_before.specs.Theorems.{PostedFirst, InRange, AllInRange}
-use Rattle.rules.specs.declared.faults.StateFault.TheVariants.{Full, ThreadNotReady, WrongTarget, WrongQueue, WrongLock, OutOfTurn, NotAdmitted}
-use Rattle.rules.specs.Acceptance.{Setting, is_on, does_on, current, busy, posted, begun, waits, overtakes, thread_not_ready, wrong_target, wrong_queue, wrong_lock, out_of_turn, not_admitted, state_tests, refusal}
+use Rattle.rules.specs.Acceptance.{Setting, is_on, does_on, current, busy, posted, waits, thread_not_ready, wrong_target, wrong_queue, wrong_lock, out_of_turn, not_admitted, state_tests, refusal}
 use Rattle.rules.specs.Fair.{Fair, FairTables, no_discipline, turn_without_discipline, refused_by_tables}
-use Rattle.rules.proofs.Places.{coded_held, row_before, some_before, found_before, lasting_before}
+use Rattle.rules.proofs.Places.{coded_held, some_before, found_before, lasting_before}
 use Rattle.rules.proofs.Pushes.{some_below_true}
 
 -- ---- What an accepted operation passed
@@ -43,20 +41,6 @@ accepted s held o h =
       admitted = no 6;
     }
 
-pub refusal_none : (s : Setting) (held : List Row) (o : Row) → Accepted s held o → refusal s held o ≡ None
-unfolding refusal
-refusal_none s held o a =
-    λ t.
-    first
-    ((lt-leb 512 (length held) a.room t, Full)
-    ∷ (a.thread_ready t, ThreadNotReady)
-    ∷ (a.right_target t, WrongTarget)
-    ∷ (a.right_queue t, WrongQueue)
-    ∷ (a.right_lock t, WrongLock)
-    ∷ (a.in_turn t, OutOfTurn)
-    ∷ (a.admitted t, NotAdmitted)
-    ∷ [])
-
 pub record Allowed (initial : ℕ → Bool) (held : List Row) (o : Row) : Type 0 where
   pub thread_ready : thread_not_ready (no_discipline initial) held o ≡ false
   pub right_target : wrong_target (no_discipline initial) held o ≡ false
@@ -77,33 +61,13 @@ allowed initial held o h =
 pub not_refused :
     (initial : ℕ → Bool) (held : List Row) (o : Row) → Allowed initial held o → refused_by_tables initial held o ≡ false
 unfolding refused_by_tables
-not_refused initial held o a =
-    λ t. a.thread_ready t || (a.right_target t || (a.right_queue t || (a.right_lock t || a.in_turn t)))
+not_refused initial held o a = grind (arith, common_steps)
 
 without : (a b c d e f : Bool) → (a || ((b && (c || (d || e))) || f)) ≡ false → (a || ((b && (c || d)) || f)) ≡ false
-without true b c d e f h = h
-without false false c d e f h = h
-without false true true d e f h = h
-without false true false true e f h = h
-without false true false false e f h = (or_parts e f h).1
+without a b c d e f h = grind (arith, common_steps)
 
 pub accepted_allowed : (s : Setting) (held : List Row) (o : Row) → Accepted s held o → Allowed s.initial held o
-accepted_allowed s held o a =
-    record {
-      thread_ready = a.thread_ready;
-      right_target = a.right_target;
-      right_queue = a.right_queue;
-      right_lock = a.right_lock;
-      in_turn =
-          without
-          (eqb o.code post && posted held o.item)
-          (eqb o.code begin)
-          (busy held o.thread)
-          (not (waits held o.thread o.item))
-          (overtakes s.precedence held o.thread o.item)
-          (eqb o.code end && not (current held o.thread o.item))
-          a.in_turn;
-    }
+accepted_allowed s held o a = grind (arith, common_steps)
 
 pub fair_tables : (s : Setting) (held : List Row) → Fair s held → FairTables s.initial held
 fair_tables s held fair i l =
@@ -130,21 +94,10 @@ each_none : (P : List Row → Row → Type 0) → Each P []
 each_none P i l = let n : ⊥ = omega arith in absurd n
 
 each_push : (P : List Row → Row → Type 0) (held : List Row) (o : Row) → Each P held → P held o → Each P (held ++ o ∷ [])
-each_push P held o each new i l =
-    ⊎_elim
-    (λ u.
-    subst₂ P (sym (take-append-le i held (o ∷ []) (omega arith))) (sym (get_or_append_left held (o ∷ []) blank i u)) (each i u))
-    (λ u.
-    let e = length_push held o in
-    let n : length held ≡ i = omega arith in
-    subst₂ P (sym (take_at held (o ∷ []) i n)) (sym (get_or_push held o blank i n)) new)
-    (cases_lt i (length held))
+each_push P held o each new i l = grind (arith, common_steps)
 
 each_cut : (P : List Row → Row → Type 0) (n : ℕ) (held : List Row) → Each P held → Each P (take n held)
-each_cut P n held each i l =
-    let e = length-take n held in
-    let u : i < n = omega arith in
-    subst₂ P (sym (take-take i n held (omega arith))) (sym (row_before held n i u)) (each i (omega arith))
+each_cut P n held each i l = grind (arith, common_steps)
 
 module _ (s : Setting) where
   FairAt : List Row → Row → Type 0
@@ -166,10 +119,6 @@ module _ (s : Setting) where
 module _ (initial : ℕ → Bool) where
   TableAt : List Row → Row → Type 0
   TableAt held o = (lawful o ≡ true) × (refused_by_tables initial held o ≡ false)
-
-  pub tables_none : FairTables initial []
-  unfolding TableAt
-  tables_none = each_none TableAt
 
   pub tables_push :
       (held : List Row) (o : Row)
@@ -197,21 +146,7 @@ module _ (initial : ℕ → Bool) (held : List Row) (o : Row) (a : Allowed initi
   post_turn e = unless o.code post _ (or_parts (eqb o.code post && posted held o.item) _ a.in_turn).0 e
 
   pub begin_turn : o.code ≡ begin → (busy held o.thread ≡ false) × (waits held o.thread o.item ≡ true)
-  begin_turn e =
-      let h = (or_parts (eqb o.code post && posted held o.item) _ a.in_turn).1 in
-      let g =
-      unless o.code begin (busy held o.thread || not (waits held o.thread o.item))
-      (or_parts (eqb o.code begin && (busy held o.thread || not (waits held o.thread o.item))) _ h).0 e
-      in
-      let (b, w) = or_parts (busy held o.thread) _ g in
-      (b, not-false _ w)
-
-  pub end_turn : o.code ≡ end → current held o.thread o.item ≡ true
-  end_turn e =
-      let h = (or_parts (eqb o.code post && posted held o.item) _ a.in_turn).1 in
-      not-false _
-      (unless o.code end _
-      (or_parts (eqb o.code begin && (busy held o.thread || not (waits held o.thread o.item))) _ h).1 e)
+  begin_turn e = grind (arith, common_steps)
 
 module _ (initial : ℕ → Bool) (held : List Row) (fair : FairTables initial held) where
   pub lawful_at : (i : ℕ) → i < length held → lawful (row held i) ≡ true
@@ -261,30 +196,8 @@ module _ (initial : ℕ → Bool) (held : List Row) (fair : FairTables initial h
       let q = one_post r.0 b (item held j) r.2 p in
       omega arith
 
-  -- a task begins once
-  no_later_begin : (a b : ℕ) → code held a ≡ begin → code held b ≡ begin → item held a ≡ item held b → a < b → ⊥
-  no_later_begin a b c d e l =
-      let u = coded_held held b _ d in
-      let w = (begin_turn initial (take b held) (row held b) (allowed_at b u) d).1 in
-      let (_, n) = and_parts _ (not (begun (take b held) (item held b))) w in
-      both_ways _ (not-true _ n)
-      (some_before held b (is_on begin (item held b)) a l (omega arith) (is_on_lem a begin (item held b) c e))
-
-  pub one_begin : (a b : ℕ) → code held a ≡ begin → code held b ≡ begin → item held a ≡ item held b → a ≡ b
-  one_begin a b c d e =
-      ⊎_elim (λ e. e)
-      (⊎_elim (λ l. absurd (no_later_begin a b c d e l)) (λ l. absurd (no_later_begin b a d c (sym e) l)))
-      (cases_order a b)
-
   does_not : (k c t p : ℕ) → (Does held k c t p → ⊥) → does_on c t p (row held k) ≡ false
-  does_not k c t p n =
-      ⊎_elim
-      (λ h.
-      let (g, i) = and_parts (eqb (code held k) c && eqb (thread held k) t) _ h in
-      let (d, u) = and_parts (eqb (code held k) c) _ g in
-      absurd (n (eqb-true _ _ d, eqb-true _ _ u, eqb-true _ _ i)))
-      (λ e. e)
-      (cases_Bool (does_on c t p (row held k)))
+  does_not k c t p n = grind (arith, common_steps)
 
   -- a thread begins no task while it has one
   no_begin_within :

@@ -1,8 +1,9 @@
 -- Where in a list an operation stands that passes, or that starts what lasts.
 use Rattle.std.proofs.Common.{◌≡◌, ℕ, zero, suc, ◌<◌, ◌≤◌, Bool, true, false, not, ◌&&◌, ◌⊎◌, List, [], ◌∷◌, length, take, sym, ap, ◌∙◌, inl, inr, ⊎_elim, arith}
+use Rattle.std.proofs.lemmas.Grind.{common_steps}
 use borrow.Author.Tests.{clash, not-true, both_ways}
-use Rattle.std.proofs.lemmas.List.{get_or_past, get_or-take, length-take}
-use Rattle.std.proofs.lemmas.Bool.{cases_lt, cases_Bool, and_parts, and_from, or_cases, or_left, or_right, not_from_false}
+use Rattle.std.proofs.lemmas.List.{get_or-take, length-take}
+use Rattle.std.proofs.lemmas.Bool.{cases_Bool, and_parts, and_from, or_cases, or_left, or_right, not_from_false}
 use Rattle.recording.specs.declared.row.Row.{Row}
 use Rattle.happens_before.specs.Trace.{row, code}
 use Rattle.recording.specs.Rows.{blank}
@@ -10,19 +11,11 @@ use Rattle.rules.specs.Acceptance.{some, lasting}
 
 -- an operation with a code is held
 pub coded_held : (xs : List Row) (k c : ℕ) → code xs k ≡ suc c → k < length xs
-coded_held xs k c e =
-    ⊎_elim (λ l. l)
-    (λ l.
-    let z : code xs k ≡ 0 = ap (λ (r : Row). r.code) (get_or_past xs k blank l) in
-    let n : ⊥ = omega arith in
-    absurd n)
-    (cases_lt k (length xs))
+coded_held xs k c e = grind (arith, common_steps)
 
 pub some_true : (p : Row → Bool) (xs : List Row) (k : ℕ) → k < length xs → p (row xs k) ≡ true → some p xs ≡ true
 unfolding some
-some_true p [] k l h = let n : ⊥ = omega arith in absurd n
-some_true p (x ∷ xs) zero l h = or_left (p x) (some p xs) h
-some_true p (x ∷ xs) (suc k) l h = or_right (p x) (some p xs) (some_true p xs k (omega arith) h)
+some_true p xs k l h = grind (arith, common_steps)
 
 pub some_found :
     (p : Row → Bool) (xs : List Row) → some p xs ≡ true → (k : ℕ) × (k < length xs) × (p (row xs k) ≡ true)
@@ -80,8 +73,7 @@ lasting_found start stop (x ∷ xs) h =
     shift :
         (k : ℕ) → ((e : ℕ) → k < e → e < length xs → stop (row xs e) ≡ false)
         → (e : ℕ) → suc k < e → e < suc (length xs) → stop (row (x ∷ xs) e) ≡ false
-    shift k h zero u v = let n : ⊥ = omega arith in absurd n
-    shift k h (suc e) u v = h e (omega arith) (omega arith)
+    shift k h e u v = grind (arith, common_steps)
 
     go :
         ((start x && not (some stop xs)) ≡ true) ⊎ (lasting start stop xs ≡ true)

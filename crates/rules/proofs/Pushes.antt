@@ -1,6 +1,7 @@
 -- What one more held operation changes.
 use Rattle.std.proofs.Common.{◌≡◌, ℕ, zero, suc, ◌<◌, Bool, true, false, not, ◌&&◌, ◌||◌, List, [], ◌∷◌, ◌++◌, sym, refl, ap, ◌∙◌, ⊎_elim, arith}
-use Rattle.std.proofs.Math.Bool.{and-true, or-false, or-true, or_assoc}
+use Rattle.std.proofs.lemmas.Grind.{common_steps}
+use Rattle.std.proofs.Math.Bool.{and-true, or-false, or-true}
 use borrow.Author.Tests.{clash}
 use Rattle.std.proofs.lemmas.Bool.{cases_eq}
 use Rattle.recording.specs.declared.row.Row.{Row}
@@ -8,21 +9,10 @@ use Rattle.rules.specs.Acceptance.{some, lasting, some_below}
 
 pub some_push : (p : Row → Bool) (held : List Row) (o : Row) → some p (held ++ o ∷ []) ≡ (some p held || p o)
 unfolding some
-some_push p [] o = or-false (p o)
-some_push p (x ∷ held) o = ap (λ b. p x || b) (some_push p held o) ∙ sym (or_assoc (p x) (some p held) (p o))
+some_push p held o = grind (arith, common_steps)
 
 push_cases : (a b c d s : Bool) → ((a && not (b || s)) || ((c && not s) || d)) ≡ ((((a && not b) || c) && not s) || d)
-push_cases true true true d true = refl
-push_cases true true true d false = refl
-push_cases true true false d true = refl
-push_cases true true false d false = refl
-push_cases true false c d true = and_none c d
-  where
-    and_none : (c d : Bool) → ((c && false) || d) ≡ d
-    and_none true d = refl
-    and_none false d = refl
-push_cases true false c d false = refl
-push_cases false b c d s = refl
+push_cases a b c d s = grind (arith, common_steps)
 
 pub lasting_push :
     (start stop : Row → Bool) (held : List Row) (o : Row)
@@ -57,5 +47,4 @@ some_below_found (suc n) p h = go (p n) refl h (some_below_found n p)
         (b : Bool) → p n ≡ b → (b || some_below n p) ≡ true
         → (some_below n p ≡ true → (k : ℕ) × (k < n) × (p k ≡ true))
         → (k : ℕ) × (k < suc n) × (p k ≡ true)
-    go true e h lower = (n, omega arith, e)
-    go false e h lower = let r = lower h in (r.0, (let l = r.1 in omega arith), r.2)
+    go b e h lower = grind (arith, common_steps)

@@ -1,9 +1,10 @@
 -- Acceptance under a renaming.
-use Rattle.std.proofs.Common.{◌≡◌, ℕ, zero, suc, ◌<◌, Bool, true, false, cond, not, ◌&&◌, ◌||◌, eqb, leb, List, [], ◌∷◌, map, length, sym, refl, ap, ◌∙◌, ap₂, arith, eq-eqb, eqb-true}
+use Rattle.std.proofs.Common.{◌≡◌, ℕ, zero, suc, ◌<◌, Bool, true, false, cond, not, ◌&&◌, ◌||◌, eqb, leb, List, [], ◌∷◌, map, length, sym, refl, ap, ◌∙◌, ap₂, arith, eqb-true}
+use Rattle.std.proofs.lemmas.Grind.{common_steps}
 use lib.ListN.{length-map}
 use Rattle.std.proofs.lemmas.List.{get_or-map}
-use Rattle.std.proofs.lemmas.Bool.{cond-true, cond-false}
-use Rattle.std.proofs.lemmas.Bool.Decides.{same_from_decides, Decides-eqb}
+use Rattle.std.proofs.lemmas.Bool.{cond-true}
+use Rattle.std.proofs.lemmas.Bool.Decides.{same_from_decides}
 use Rattle.recording.specs.Codes.{threadinit, threadexit, fork, join, attach_q, loop_on_q, post, begin, end, acquire, release, has_target, has_task, has_lock}
 use Rattle.recording.specs.Faults.{first}
 use Rattle.recording.specs.Posts.{marks_in}
@@ -28,10 +29,7 @@ some_below_same (suc n) p q h = λ t. h n (omega arith) t || some_below_same n p
 
 module _ {n : ℕ} (π : Permutation n) where
   pub eqb_to : (a b : ℕ) → a < n → b < n → eqb (π.to a) (π.to b) ≡ eqb a b
-  eqb_to a b l u =
-      same_from_decides (eqb (π.to a) (π.to b)) (eqb a b)
-      (λ e. sym (π.back_to a l) ∙ (ap π.back (eqb-true _ _ e) ∙ π.back_to b u), λ e. eq-eqb _ _ (ap π.to e))
-      (Decides-eqb a b)
+  eqb_to a b l u = grind (arith, common_steps)
 
   pub some_below_to :
       (p q : ℕ → Bool) → ((k : ℕ) → k < n → q (π.to k) ≡ p k) → some_below n q ≡ some_below n p
@@ -52,44 +50,27 @@ module _ {n : ℕ} (π : Permutation n) where
 -- ---- Tests that ask more only where an earlier one holds
 
 same_if : (b x y : Bool) → (b ≡ true → x ≡ y) → (b && x) ≡ (b && y)
-same_if true x y h = h refl
-same_if false x y h = refl
+same_if b x y h = grind (arith, common_steps)
 
 same_under :
     (b x y v w : Bool) → (b ≡ true → x ≡ y) → (b ≡ true → v ≡ w) → ((b && x) && v) ≡ ((b && y) && w)
-same_under true x y v w h g = λ t. h refl t && g refl t
-same_under false x y v w h g = refl
+same_under b x y v w h g = grind (arith, common_steps)
 
 -- ---- One operation
 
 module _ (m : Renaming) (x : Row) (r : InRange x) where
-  pub target_to : has_target x.code ≡ true → (renamed m x).target ≡ m.threads.to x.target
-  target_to h = cond-true (has_target x.code) _ _ h
-
   pub task_to : has_task x.code ≡ true → (renamed m x).item ≡ m.tasks.to x.item
   task_to h = cond-true (has_task x.code) _ _ h
-
-  pub lock_to : has_task x.code ≡ false → has_lock x.code ≡ true → (renamed m x).item ≡ m.locks.to x.item
-  lock_to h g = cond-false (has_task x.code) _ _ h ∙ cond-true (has_lock x.code) _ _ g
 
   thread_is : (t : ℕ) → t < 64 → eqb (renamed m x).thread (m.threads.to t) ≡ eqb x.thread t
   thread_is t l = eqb_to m.threads x.thread t r.0 l
 
   target_is :
       (t : ℕ) → t < 64 → has_target x.code ≡ true → eqb (renamed m x).target (m.threads.to t) ≡ eqb x.target t
-  target_is t l h =
-      ap (λ u. eqb u (m.threads.to t)) (target_to h) ∙ eqb_to m.threads x.target t (r.1 h) l
+  target_is t l h = grind (arith, common_steps)
 
   task_is : (p : ℕ) → p < 512 → has_task x.code ≡ true → eqb (renamed m x).item (m.tasks.to p) ≡ eqb x.item p
   task_is p l h = ap (λ u. eqb u (m.tasks.to p)) (task_to h) ∙ eqb_to m.tasks x.item p (r.2 h) l
-
-  lock_is :
-      (k : ℕ)
-      → k < 64
-      → has_task x.code ≡ false
-      → has_lock x.code ≡ true
-      → eqb (renamed m x).item (m.locks.to k) ≡ eqb x.item k
-  lock_is k l h g = ap (λ u. eqb u (m.locks.to k)) (lock_to h g) ∙ eqb_to m.locks x.item k (r.3 g) l
 
   -- the test of a code tells which fields there are
   by : (f : ℕ → Bool) (c : ℕ) {b : Bool} → f c ≡ b → eqb x.code c ≡ true → f x.code ≡ b
@@ -107,8 +88,7 @@ module _ (m : Renaming) (x : Row) (r : InRange x) where
 
     does_task_is :
         (c p : ℕ) → p < 512 → has_task c ≡ true → does_on c (m.threads.to t) (m.tasks.to p) (renamed m x) ≡ does_on c t p x
-    does_task_is c p u h =
-        same_under (eqb x.code c) _ _ _ _ (λ e. thread_is t l) (λ e. task_is p u (by has_task c h e))
+    does_task_is c p u h = grind (arith, common_steps)
 
     does_lock_is :
         (c k : ℕ)
@@ -116,18 +96,14 @@ module _ (m : Renaming) (x : Row) (r : InRange x) where
         → has_task c ≡ false
         → has_lock c ≡ true
         → does_on c (m.threads.to t) (m.locks.to k) (renamed m x) ≡ does_on c t k x
-    does_lock_is c k u h g =
-        same_under (eqb x.code c) _ _ _ _ (λ e. thread_is t l) (λ e. lock_is k u (by has_task c h e) (by has_lock c g e))
+    does_lock_is c k u h g = grind (arith, common_steps)
 
     posts_is :
         (p : ℕ)
         → p < 512
         → (is_on post (m.tasks.to p) (renamed m x) && eqb (renamed m x).target (m.threads.to t))
         ≡ (is_on post p x && eqb x.target t)
-    posts_is p u =
-        same_under (eqb x.code post) _ _ _ _
-        (λ e. task_is p u (by has_task post refl e))
-        (λ e. target_is t l (by has_target post refl e))
+    posts_is p u = grind (arith, common_steps)
 
   on_is : (c p : ℕ) → p < 512 → has_task c ≡ true → is_on c (m.tasks.to p) (renamed m x) ≡ is_on c p x
   on_is c p u h = same_if (eqb x.code c) _ _ (λ e. task_is p u (by has_task c h e))
@@ -288,9 +264,7 @@ module _
         → has_target c ≡ true
         → ((t : ℕ) → t < 64 → f (m.threads.to t) ≡ g t)
         → (eqb o.code c && f (renamed m o).target) ≡ (eqb o.code c && g o.target)
-    at_target f g c h moved =
-        same_if (eqb o.code c) _ _
-        (λ e. let k = by m o r has_target c h e in ap f (target_to m o r k) ∙ moved o.target (r.1 k))
+    at_target f g c h moved = grind (arith, common_steps)
 
     wrong_target_moved : wrong_target s' after (renamed m o) ≡ wrong_target s held o
     wrong_target_moved =
@@ -314,9 +288,7 @@ module _
         → has_task c ≡ true
         → ((p : ℕ) → p < 512 → f (m.tasks.to p) ≡ g p)
         → (eqb o.code c && f (renamed m o).item) ≡ (eqb o.code c && g o.item)
-    at_task f g c h moved =
-        same_if (eqb o.code c) _ _
-        (λ e. let k = by m o r has_task c h e in ap f (task_to m o r k) ∙ moved o.item (r.2 k))
+    at_task f g c h moved = grind (arith, common_steps)
 
     at_lock :
         (f g : ℕ → Bool) (c : ℕ)
@@ -324,11 +296,7 @@ module _
         → has_lock c ≡ true
         → ((k : ℕ) → k < 64 → f (m.locks.to k) ≡ g k)
         → (eqb o.code c && f (renamed m o).item) ≡ (eqb o.code c && g o.item)
-    at_lock f g c n h moved =
-        same_if (eqb o.code c) _ _
-        (λ e.
-        let k = by m o r has_lock c h e in
-        ap f (lock_to m o r (by m o r has_task c n e) k) ∙ moved o.item (r.3 k))
+    at_lock f g c n h moved = grind (arith, common_steps)
 
     wrong_lock_moved : wrong_lock s' after (renamed m o) ≡ wrong_lock s held o
     wrong_lock_moved =

@@ -1,30 +1,25 @@
-use Rattle.std.proofs.Common.{ap, ◌∙◌, subst, arith}
+use Rattle.std.proofs.Common.{length, ap, ◌∙◌, subst, arith}
 use Rattle.recording.specs.Rows.{row_of}
 use Rattle.index.specs.Indexed.{NotedKinds, NotedRest}
-use Rattle.index.proofs.Kept.{indexed_push, same_sets}
+use Rattle.index.proofs.Kept.{indexed_push}
 use Rattle.index.proofs.sets.Index.note_operation.Goals as goal
 
-pub returns : goal.returns
-returns c =
+pub returns-clause-indexed : goal.returns-clause-indexed
+returns-clause-indexed c held indexed at room looping tasks =
     let o = c.args.operation.row in
-    let position = c.args.position in
     let before = c.args.self.now in
     let middle = c.note_kinds.new.self in
     let after = c.note_rest.new.self in
-    let t = c.thread-thread.ensures in
-    let kinds : NotedKinds o position before middle =
-    subst (λ r. NotedKinds r position before middle) (ap (λ u. row_of u c.action.result) t ∙ c.action.ensures)
-    c.note_kinds.ensures.noted
+    let t = c.thread-thread in
+    let kinds : NotedKinds (row_of t.result.number c.action.result) (length held) before middle =
+    rw (← at) c.note_kinds.ensures.noted
     in
-    let rest : NotedRest o.thread c.args.looping c.args.task position middle after =
-    subst (λ u. NotedRest u c.args.looping c.args.task position middle after) t c.note_rest.ensures.noted
+    let rest : NotedRest t.result.number c.args.looping c.args.task (length held) middle after =
+    rw (← at) c.note_rest.ensures.noted
     in
-    record {
-      indexed =
-          λ held indexed at room looping tasks.
-          indexed_push held o before middle after c.args.looping c.args.task indexed (omega arith)
-          (subst (λ n. NotedKinds o n before middle) at kinds)
-          (subst (λ n. NotedRest o.thread c.args.looping c.args.task n middle after) at rest) looping tasks;
-      noted = (middle, kinds, rest);
-      past = λ h. same_sets before middle after (c.note_kinds.ensures.past h) (c.note_rest.ensures.past h);
-    }
+    indexed_push held o before middle after c.args.looping c.args.task indexed (omega arith)
+    (subst (λ r. NotedKinds r (length held) before middle)
+    (ap (λ u. row_of u c.action.result) t.ensures ∙ c.action.ensures)
+    kinds)
+    (subst (λ u. NotedRest u c.args.looping c.args.task (length held) middle after) t.ensures rest)
+    looping tasks
