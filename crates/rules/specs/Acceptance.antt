@@ -1,5 +1,5 @@
 -- Which operations are accepted, read off the list of those held.
-use Rattle.std.specs.Prelude.{ℕ, zero, suc, Bool, false, cond, not, ◌&&◌, ◌||◌, List, [], ◌∷◌, length, Option, ◌==◌, nat_le}
+use Rattle.std.specs.Prelude.{◌≡◌, ℕ, zero, suc, Bool, false, cond, not, ◌&&◌, ◌||◌, List, [], ◌∷◌, length, Some, None, Option, Result, MatchResult, ◌==◌, nat_le}
 use Rattle.recording.specs.Codes.{
   threadinit,
   threadexit,
@@ -193,3 +193,7 @@ module _ (s : Setting) (held : List Row) (o : Row) where
 
   unfoldable pub refusal : Option StateFault
   refusal = first state_tests
+
+-- an operation is turned away for the refusal, if there is one
+abbrev pub Judged : Option StateFault → Result Unit StateFault → Type 0
+Judged refusal result = MatchResult result (λ _. refusal ≡ None) (λ f. refusal ≡ Some f)

@@ -1,8 +1,9 @@
 //! The tables of threads, locks and tasks.
-ghost use Rattle.std.specs.Prelude.{◌≡◌, ℕ, ◌<◌, ◌≤◌, Bool, ◌&&◌, ltb, List, [], ◌∷◌, ◌++◌, length, if◌then◌else◌, Some, None, nat_lt, MatchResult};
+ghost use Rattle.std.specs.Prelude.{◌≡◌, ℕ, ◌<◌, ◌≤◌, Bool, ◌&&◌, ltb, List, [], ◌∷◌, ◌++◌, length, if◌then◌else◌, None, nat_lt};
 ghost use Rattle.recording.specs.Rows.{row_of};
 ghost use Rattle.recording.specs.declared.row.Row.{Row};
 ghost use Rattle.recording.specs.Masks.{bit};
+ghost use Rattle.rules.specs.Acceptance.{Judged};
 ghost use Rattle.tables.specs.Matches.{Matches, table_refusal};
 ghost use Rattle.tables.specs.Records.{thread_at, holder_at, task_at, unstarted, waits_at};
 ghost use Rattle.tables.specs.Steps.{changed, TakenIn};
@@ -23,7 +24,7 @@ mod judging;
 #[derive(Clone, Copy)]
 pub struct Tables {
     threads: [ThreadRecord; 64],
-    /// The thread that holds each lock.
+    /// The thread that holds each lock, a plain number as in a row.
     holders: [Option<u16>; 64],
     tasks: [TaskRecord; 512],
 }
@@ -63,7 +64,7 @@ impl Tables {
 
     /// Why the operation is turned away, whatever the discipline and however many are held.
     pub fn judge(&self, operation: Operation) -> Result<(), StateFault>
-        ensures { (initial : ℕ → Bool) (held : List Row) → Matches initial held self.now → MatchResult result (λ _. table_refusal initial held operation.row ≡ None) (λ f. table_refusal initial held operation.row ≡ Some f) }
+        ensures { (initial : ℕ → Bool) (held : List Row) → Matches initial held self.now → Judged (table_refusal initial held operation.row) result }
     {
         self.judge_action(operation.thread(), operation.action())
     }

@@ -6,7 +6,7 @@ ghost use Rattle.tables.specs.Steps.{posted_at, retasked};
 
 use recording::action::Action;
 
-/// The post of a task: its position, and the thread that it posts to.
+/// The post of a task: its position, and the thread that it posts to, plain numbers as in a row.
 #[derive(Clone, Copy)]
 pub struct Posting {
     pub position: u16,

@@ -18,7 +18,7 @@ pub struct ThreadRecord {
     pub(crate) stage: Stage,
     pub(crate) queue: bool,
     pub(crate) looping: bool,
-    /// The number of the current task.
+    /// The current task, a plain number as in a row: what an operation makes of a record is said of its row.
     pub(crate) current: Option<u16>,
 }
 

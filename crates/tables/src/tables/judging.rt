@@ -1,7 +1,8 @@
 //! What the tables turn an operation away for.
-ghost use Rattle.std.specs.Prelude.{◌≡◌, true, false, if◌then◌else◌, Some, None, nat_eq, MatchResult};
+ghost use Rattle.std.specs.Prelude.{◌≡◌, if◌then◌else◌, Some, None, nat_eq};
 ghost use Rattle.recording.specs.Codes.{threadinit};
 ghost use Rattle.recording.specs.Rows.{row_of};
+ghost use Rattle.rules.specs.Acceptance.{Judged};
 ghost use Rattle.tables.specs.Judging.{begin_fault, post_fault, verdict};
 ghost use Rattle.tables.specs.Records.{is_created, is_running};
 
@@ -14,7 +15,7 @@ use rules::faults::StateFault;
 
 impl Tables {
     pub(crate) fn judge_action(&self, thread: Thread, action: Action) -> Result<(), StateFault>
-        ensures { MatchResult result (λ _. verdict self.now (row_of thread.number action) ≡ None) (λ f. verdict self.now (row_of thread.number action) ≡ Some f) }
+        ensures { Judged (verdict self.now (row_of thread.number action)) result }
     {
         let own = self.thread(thread);
         ensure(is_ready(own.stage, action), StateFault::ThreadNotReady)?;
@@ -62,13 +63,13 @@ fn is_ready(stage: Stage, action: Action) -> bool
 
 /// Refuses where the test fails.
 fn ensure(test: bool, fault: StateFault) -> Result<(), StateFault>
-    ensures { MatchResult result (λ _. test ≡ true) (λ f. (test ≡ false) × (f ≡ fault)) }
+    ensures { Judged (if test then None else Some fault) result }
 {
     if test { Ok(()) } else { Err(fault) }
 }
 
 fn judge_post(target: ThreadRecord, task: TaskRecord) -> Result<(), StateFault>
-    ensures { MatchResult result (λ _. post_fault target task ≡ None) (λ f. post_fault target task ≡ Some f) }
+    ensures { Judged (post_fault target task) result }
 {
     ensure(
         target.stage == Stage::Running && target.queue,
@@ -78,7 +79,7 @@ fn judge_post(target: ThreadRecord, task: TaskRecord) -> Result<(), StateFault>
 }
 
 fn judge_begin(own: ThreadRecord, thread: Thread, task: TaskRecord) -> Result<(), StateFault>
-    ensures { MatchResult result (λ _. begin_fault own thread.number task ≡ None) (λ f. begin_fault own thread.number task ≡ Some f) }
+    ensures { Judged (begin_fault own thread.number task) result }
 {
     ensure(own.looping, StateFault::WrongQueue)?;
     ensure(
