@@ -1,7 +1,9 @@
 -- What the rules give of a new operation, as tests of the operations held.
-use Rattle.std.proofs.Common.{◌≡◌, ℕ, ◌<◌, true, not, ◌&&◌, eqb, List, [], ◌∷◌, ◌++◌, length, take, sym, refl, ap, ◌∙◌, subst, inl, inr, ⊎_elim, arith, length-append, eq-eqb, ne_eqb, eqb-true}
-use borrow.Author.Tests.{eqb-false, not-true, both_ways}
-use Rattle.std.proofs.lemmas.Bool.{cases_Bool, and_parts, and_from, or_cases, or_left, or_right, not_from_false}
+use Rattle.std.proofs.lemmas.Bool.Decides.{Decides-eqb, Decides-and, Decides-or, Decides-not, Decides-like}
+use Rattle.std.specs.Bool.{Decides}
+use Rattle.std.proofs.Common.{◌≡◌, ℕ, ◌<◌, Bool, true, ◌&&◌, ◌⊎◌, eqb, List, [], ◌∷◌, ◌++◌, length, take, sym, refl, ap, ◌∙◌, subst, ap₂, inl, inr, ⊎_elim, arith, length-append, eq-eqb, eqb-true}
+use borrow.Author.Tests.{not-true, both_ways}
+use Rattle.std.proofs.lemmas.Bool.{cases_Bool, and_parts, and_from, not_from_false}
 use Rattle.std.proofs.lemmas.List.{take_at}
 use Rattle.recording.specs.Codes.{threadinit, threadexit, fork, join, attach_q, loop_on_q, post, begin, end, acquire, release, enable}
 use Rattle.recording.specs.declared.row.Row.{Row}
@@ -20,7 +22,7 @@ use Rattle.happens_before.proofs.Rules.Base.{
   queue_order,
   run_to_completion,
 }
-use Rattle.rules.specs.Acceptance.{does, is_on, forks, loops}
+use Rattle.rules.specs.Acceptance.{does, loops}
 use Rattle.rules.proofs.Places.{some_before, found_before}
 use Rattle.index.specs.Given.{kindly}
 use Rattle.index.specs.Indexed.{member_at, unlooped_at}
@@ -30,6 +32,41 @@ use Rattle.recording.specs.Posts.{marks_in}
 use Rattle.ordering.specs.Directly.{Directly}
 use Rattle.ordering.specs.Directly.Directly.{by_program, by_task, by_kind, by_post, by_handover}
 use Rattle.ordering.proofs.Members.{member_sound, member_full}
+
+-- ---- attach, enable, fork, join and lock order, as tests of two rows
+module _ (trace : List Row) (i j : ℕ) where
+  abbrev Kindly : Type 0
+  Kindly =
+      AttachOrder trace i j
+      ⊎ (EnableOrder trace i j ⊎ (ForkOrder trace i j ⊎ (JoinOrder trace i j ⊎ LockOrder trace i j)))
+
+  both : (m n x y : ℕ) → Decides (eqb m n && eqb x y) ((m ≡ n) × (x ≡ y))
+  both m n x y = Decides-and _ _ (Decides-eqb m n) (Decides-eqb x y)
+
+  kindly_is : Decides (kindly (row trace i) (row trace j)) Kindly
+  kindly_is =
+      let a : Row = row trace i in
+      let o : Row = row trace j in
+      Decides-or _ _
+      (Decides-like _
+      (λ (p, ((c, t), n)). (c, p, sym t, λ q. n (sym t ∙ sym q)))
+      (λ (c, p, t, n). (p, ((c, sym t), λ q. n (sym q ∙ t))))
+      (Decides-and _ _ (Decides-eqb o.code post)
+      (Decides-and _ _ (both a.code attach_q a.thread o.target) (Decides-not _ (Decides-eqb o.target o.thread)))))
+      (Decides-or _ _
+      (swapped (Decides-eqb o.code post) (both a.code enable a.item o.item))
+      (Decides-or _ _
+      (swapped (Decides-eqb o.code threadinit) (both a.code fork a.target o.thread))
+      (Decides-or _ _
+      (swapped (Decides-eqb o.code join) (both a.code threadexit a.thread o.target))
+      (Decides-like _
+      (λ (q, ((c, t), n)). (c, q, t, n))
+      (λ (c, q, t, n). (q, ((c, t), n)))
+      (Decides-and _ _ (Decides-eqb o.code acquire)
+      (Decides-and _ _ (both a.code release a.item o.item) (Decides-not _ (Decides-eqb a.thread o.thread))))))))
+    where
+      swapped : {x y : Bool} {P Q S : Type 0} → Decides x P → Decides y (Q × S) → Decides (x && y) (Q × P × S)
+      swapped d e = Decides-like _ (λ (p, (q, s)). (q, p, s)) (λ (q, p, s). (p, (q, s))) (Decides-and _ _ d e)
 
 module _ (held : List Row) (o : Row) where
   abbrev pub trace : List Row
@@ -101,127 +138,24 @@ module _ (held : List Row) (o : Row) where
     task_full (p, b, c) =
         (p, newest_member p ∙ member_full (held ++ o ∷ []) (length held) p newest_held c, belongs_full p b)
 
-    -- ---- attach, enable, fork, join and lock order
+    kindly_at : kindly (row (held ++ o ∷ []) i) (row (held ++ o ∷ []) (length held)) ≡ kindly (row held i) o
+    kindly_at = ap₂ kindly at at_newest
+
+    kindly_full : Kindly (held ++ o ∷ []) i (length held) → kindly (row held i) o ≡ true
+    kindly_full h = sym kindly_at ∙ (kindly_is (held ++ o ∷ []) i (length held)).1 h
+
     module _ (D : Precedence) (R : Pairs) where
-      abbrev pub Given : Type 0
-      Given = Base D (held ++ o ∷ []) R i (length held)
-
-      c_i : (c : ℕ) → eqb (row held i).code c ≡ true → code (held ++ o ∷ []) i ≡ c
-      c_i c e = ap (λ r. r.code) at ∙ eqb-true _ _ e
-
-      c_n : (c : ℕ) → eqb o.code c ≡ true → code (held ++ o ∷ []) (length held) ≡ c
-      c_n c e = ap (λ r. r.code) at_newest ∙ eqb-true _ _ e
-
-      kindly_sound : kindly (row held i) o ≡ true → Given
+      kindly_sound : kindly (row held i) o ≡ true → Base D (held ++ o ∷ []) R i (length held)
       kindly_sound h =
-          ⊎_elim attached
-          (λ h.
-          ⊎_elim enabled
-          (λ h.
-          ⊎_elim forked
-          (λ h. ⊎_elim joined locked (or_cases (eqb o.code join && does threadexit o.target (row held i)) _ h))
-          (or_cases (eqb o.code threadinit && forks o.thread (row held i)) _ h))
-          (or_cases (eqb o.code post && is_on enable o.item (row held i)) _ h))
-          (or_cases (eqb o.code post && (does attach_q o.target (row held i) && not (eqb o.target o.thread))) _ h)
-        where
-          locked : (eqb o.code acquire && (is_on release o.item (row held i) && not (eqb (row held i).thread o.thread))) ≡ true → Given
-          locked e =
-              let (a, b) = and_parts (eqb o.code acquire) _ e in
-              let (c, d) = and_parts (is_on release o.item (row held i)) _ b in
-              let (f, g) = and_parts (eqb (row held i).code release) _ c in
-              lock_order (
-                c_i release f,
-                c_n acquire a,
-                (λ t. (at t).item) ∙ (eqb-true _ _ g ∙ sym (λ t. (at_newest t).item)),
-                λ q. eqb-false _ _ (not-true _ d) (sym (λ t. (at t).thread) ∙ (q ∙ (λ t. (at_newest t).thread))),
-              )
-
-          joined : (eqb o.code join && does threadexit o.target (row held i)) ≡ true → Given
-          joined e =
-              let (a, b) = and_parts (eqb o.code join) _ e in
-              let (f, g) = and_parts (eqb (row held i).code threadexit) _ b in
-              join_order (c_i threadexit f, c_n join a, (λ t. (at t).thread) ∙ (eqb-true _ _ g ∙ sym (λ t. (at_newest t).target)))
-
-          forked : (eqb o.code threadinit && forks o.thread (row held i)) ≡ true → Given
-          forked e =
-              let (a, b) = and_parts (eqb o.code threadinit) _ e in
-              let (f, g) = and_parts (eqb (row held i).code fork) _ b in
-              fork_order (c_i fork f, c_n threadinit a, (λ t. (at t).target) ∙ (eqb-true _ _ g ∙ sym (λ t. (at_newest t).thread)))
-
-          enabled : (eqb o.code post && is_on enable o.item (row held i)) ≡ true → Given
-          enabled e =
-              let (a, b) = and_parts (eqb o.code post) _ e in
-              let (f, g) = and_parts (eqb (row held i).code enable) _ b in
-              enable_order (c_i enable f, c_n post a, (λ t. (at t).item) ∙ (eqb-true _ _ g ∙ sym (λ t. (at_newest t).item)))
-
-          attached : (eqb o.code post && (does attach_q o.target (row held i) && not (eqb o.target o.thread))) ≡ true → Given
-          attached e =
-              let (a, b) = and_parts (eqb o.code post) _ e in
-              let (c, d) = and_parts (does attach_q o.target (row held i)) _ b in
-              let (f, g) = and_parts (eqb (row held i).code attach_q) _ c in
-              let same : thread (held ++ o ∷ []) i ≡ o.target = (λ t. (at t).thread) ∙ eqb-true _ _ g in
-              attach_order (
-                c_i attach_q f,
-                c_n post a,
-                (λ t. (at_newest t).target) ∙ sym same,
-                λ q. eqb-false _ _ (not-true _ d) (sym same ∙ (sym q ∙ (λ t. (at_newest t).thread))),
-              )
+          ⊎_elim attach_order
+          (⊎_elim enable_order (⊎_elim fork_order (⊎_elim join_order lock_order)))
+          ((kindly_is (held ++ o ∷ []) i (length held)).0 (kindly_at ∙ h))
 
       i_code : {c : ℕ} → code (held ++ o ∷ []) i ≡ c → (row held i).code ≡ c
       i_code e = sym (λ t. (at t).code) ∙ e
 
       n_code : {c : ℕ} → code (held ++ o ∷ []) (length held) ≡ c → o.code ≡ c
       n_code e = sym (λ t. (at_newest t).code) ∙ e
-
-      attach_full : AttachOrder (held ++ o ∷ []) i (length held) → kindly (row held i) o ≡ true
-      attach_full (a, b, c, d) =
-          let same : (row held i).thread ≡ o.target = sym (λ t. (at t).thread) ∙ (sym c ∙ (λ t. (at_newest t).target)) in
-          or_left _ _
-          (and_from (eqb o.code post) _ (eq-eqb _ _ (n_code b))
-          (and_from (does attach_q o.target (row held i)) _
-          (and_from (eqb (row held i).code attach_q) _ (eq-eqb _ _ (i_code a)) (eq-eqb _ _ same))
-          (not_from_false _
-          (ne_eqb _ _ (λ q. d ((λ t. (at_newest t).thread) ∙ (sym q ∙ (sym same ∙ sym (λ t. (at t).thread)))))))))
-
-      enable_full : EnableOrder (held ++ o ∷ []) i (length held) → kindly (row held i) o ≡ true
-      enable_full (a, b, c) =
-          or_right (eqb o.code post && (does attach_q o.target (row held i) && not (eqb o.target o.thread))) _
-          (or_left _ _
-          (and_from (eqb o.code post) _ (eq-eqb _ _ (n_code b))
-          (and_from (eqb (row held i).code enable) _ (eq-eqb _ _ (i_code a))
-          (eq-eqb _ _ (sym (λ t. (at t).item) ∙ (c ∙ (λ t. (at_newest t).item)))))))
-
-      fork_full : ForkOrder (held ++ o ∷ []) i (length held) → kindly (row held i) o ≡ true
-      fork_full (a, b, c) =
-          or_right (eqb o.code post && (does attach_q o.target (row held i) && not (eqb o.target o.thread))) _
-          (or_right (eqb o.code post && is_on enable o.item (row held i)) _
-          (or_left _ _
-          (and_from (eqb o.code threadinit) _ (eq-eqb _ _ (n_code b))
-          (and_from (eqb (row held i).code fork) _ (eq-eqb _ _ (i_code a))
-          (eq-eqb _ _ (sym (λ t. (at t).target) ∙ (c ∙ (λ t. (at_newest t).thread))))))))
-
-      join_full : JoinOrder (held ++ o ∷ []) i (length held) → kindly (row held i) o ≡ true
-      join_full (a, b, c) =
-          or_right (eqb o.code post && (does attach_q o.target (row held i) && not (eqb o.target o.thread))) _
-          (or_right (eqb o.code post && is_on enable o.item (row held i)) _
-          (or_right (eqb o.code threadinit && forks o.thread (row held i)) _
-          (or_left _ _
-          (and_from (eqb o.code join) _ (eq-eqb _ _ (n_code b))
-          (and_from (eqb (row held i).code threadexit) _ (eq-eqb _ _ (i_code a))
-          (eq-eqb _ _ (sym (λ t. (at t).thread) ∙ (c ∙ (λ t. (at_newest t).target)))))))))
-
-      lock_full : LockOrder (held ++ o ∷ []) i (length held) → kindly (row held i) o ≡ true
-      lock_full (a, b, c, d) =
-          or_right (eqb o.code post && (does attach_q o.target (row held i) && not (eqb o.target o.thread))) _
-          (or_right (eqb o.code post && is_on enable o.item (row held i)) _
-          (or_right (eqb o.code threadinit && forks o.thread (row held i)) _
-          (or_right (eqb o.code join && does threadexit o.target (row held i)) _
-          (and_from (eqb o.code acquire) _ (eq-eqb _ _ (n_code b))
-          (and_from (is_on release o.item (row held i)) _
-          (and_from (eqb (row held i).code release) _ (eq-eqb _ _ (i_code a))
-          (eq-eqb _ _ (sym (λ t. (at t).item) ∙ (c ∙ (λ t. (at_newest t).item)))))
-          (not_from_false _
-          (ne_eqb _ _ (λ q. d ((λ t. (at t).thread) ∙ (q ∙ sym (λ t. (at_newest t).thread)))))))))))
 
       -- ---- post order, queue order and run to completion
       n_item : item (held ++ o ∷ []) (length held) ≡ o.item
@@ -304,13 +238,13 @@ module _ (D : Precedence) (R : Pairs) (held : List Row) (o : Row) (i : ℕ) (l :
   pub directly_full : Base D (held ++ o ∷ []) R i (length held) → Directly D R held o i
   directly_full (program_order h) = by_program (program_full held o i l h)
   directly_full (task_order h) = let r = task_full held o i l h in by_task r.0 r.1 r.2
-  directly_full (attach_order h) = by_kind (attach_full held o i l D R h)
-  directly_full (enable_order h) = by_kind (enable_full held o i l D R h)
+  directly_full (attach_order h) = by_kind (kindly_full held o i l (inl h))
+  directly_full (enable_order h) = by_kind (kindly_full held o i l (inr (inl h)))
   directly_full (post_order (a, b, c)) =
       by_post (n_code held o i l D R b) (posts_down held o i l D R i o.item l (a, c ∙ n_item held o i l D R))
-  directly_full (fork_order h) = by_kind (fork_full held o i l D R h)
-  directly_full (join_order h) = by_kind (join_full held o i l D R h)
-  directly_full (lock_order h) = by_kind (lock_full held o i l D R h)
+  directly_full (fork_order h) = by_kind (kindly_full held o i l (inr (inr (inl h))))
+  directly_full (join_order h) = by_kind (kindly_full held o i l (inr (inr (inr (inl h)))))
+  directly_full (lock_order h) = by_kind (kindly_full held o i l (inr (inr (inr (inr h)))))
   directly_full (queue_order ((e, c, t), (a, b, an, bn, q, p, r, d))) =
       by_handover b (n_code held o i l D R c)
       (posts_down held o i l D R b o.item bn (subst (Posts (held ++ o ∷ []) b) (n_item held o i l D R) p))

@@ -1,5 +1,6 @@
 -- The descending pass over a column of what stands directly before gives what is before.
 use Rattle.std.proofs.Common.{◌≡◌, ℕ, zero, suc, ◌<◌, ◌≤◌, Bool, true, false, not, ◌&&◌, ◌||◌, eqb, ◌↔◌, List, [], ◌∷◌, ◌++◌, length, take, sym, refl, ap, ◌∙◌, subst, arith, length-append}
+use Rattle.std.proofs.lemmas.Bool.Decides.{same_from_decides}
 use Rattle.std.proofs.lemmas.List.{take_at}
 use Rattle.recording.specs.Codes.{has_task}
 use Rattle.recording.specs.declared.row.Row.{Row}
@@ -22,7 +23,7 @@ use Rattle.index.proofs.Kept.{row_earlier, row_newest}
 use Rattle.rules.specs.Columns.{pairs_in, Right}
 use Rattle.ordering.specs.Directly.{Directly}
 use Rattle.ordering.proofs.Bridge.{directly_sound, directly_full}
-use Rattle.ordering.proofs.Members.{same_tests, member_sound}
+use Rattle.ordering.proofs.Members.{member_sound}
 
 -- ---- the pass
 
@@ -85,7 +86,7 @@ module _
     pub filled_so : (i k : ℕ) → k < length held → has (column_at columns k) i ≡ hb D (held ++ o ∷ []) i k
     filled_so i k l =
         let b = before_hb D held (posted_first_before held (o ∷ []) first) i k in
-        same_tests _ _ (λ e. b.0 ((right i k l).0 e)) (λ e. (right i k l).1 (b.1 e))
+        same_from_decides _ _ (right i k l) (b.1, b.0)
         ∙ sym (extended held (o ∷ []) D i k l)
 
     pub directly_is :
@@ -94,13 +95,12 @@ module _
         → (i : ℕ) → column i ≡ base D (held ++ o ∷ []) (hb D (held ++ o ∷ [])) i (length held)
     directly_is column e i =
         let n = length-append held (o ∷ []) in
-        same_tests (column i) (base D (held ++ o ∷ []) (pairs_in columns) i (length held))
-        (λ h.
-        let r = (e i).0 h in
-        base_full D (held ++ o ∷ []) (pairs_in columns) i (length held) r.0 (directly_sound D (pairs_in columns) held o i r.0 r.1))
-        (λ h.
-        let r = base_sound D (held ++ o ∷ []) (pairs_in columns) i (length held) h in
-        (e i).1 (r.0, directly_full D (pairs_in columns) held o i r.0 r.1))
+        same_from_decides (column i) (base D (held ++ o ∷ []) (pairs_in columns) i (length held)) (e i) (
+          λ h.
+              let r = base_sound D (held ++ o ∷ []) (pairs_in columns) i (length held) h in
+              (r.0, directly_full D (pairs_in columns) held o i r.0 r.1),
+          λ r. base_full D (held ++ o ∷ []) (pairs_in columns) i (length held) r.0 (directly_sound D (pairs_in columns) held o i r.0 r.1),
+        )
         ∙ base_alike (length (held ++ o ∷ [])) (held ++ o ∷ []) (held ++ o ∷ []) (alike_refl _ _) D (pairs_in columns)
         (hb D (held ++ o ∷ [])) i (length held) (omega arith) (λ k b l. filled_so k b l)
 

@@ -1,6 +1,7 @@
 -- The post of a task, by its record.
 use Rattle.std.proofs.Common.{◌≡◌, ℕ, ◌<◌, true, false, ◌&&◌, ◌||◌, eqb, ltb, List, length, Some, None, Option, sym, refl, ap, ◌∙◌, ⊎_elim, ltb-true, lt-ltb, eq-eqb, eqb-true}
 use borrow.Author.Tests.{both_ways, clash}
+use Rattle.std.proofs.lemmas.Bool.Decides.{same_from_decides, Decides-eqb}
 use Rattle.std.proofs.lemmas.Bool.{and_parts, and_from, cases_Bool}
 use Rattle.recording.specs.Codes.{post, begin}
 use Rattle.recording.specs.declared.row.Row.{Row}
@@ -12,7 +13,7 @@ use Rattle.rules.proofs.Pushes.{some_below_true}
 use Rattle.tables.specs.declared.tasks.Posting.{Posting}
 use Rattle.tables.specs.Records.{stands_at}
 use Rattle.index.specs.Indexed.{member_at}
-use Rattle.ordering.proofs.Members.{does_it, same_tests}
+use Rattle.ordering.proofs.Members.{does_on_is}
 
 module _
     (held : List Row) (p : ℕ) (posting : Option Posting)
@@ -43,13 +44,12 @@ pub begin_member :
     → ((q : ℕ) → is_of now-current q ≡ current held o.thread q) → ((q : ℕ) → is_of now-current q ≡ true → q < 512)
     → eqb n p ≡ member_at held p o
 begin_member held o now-current n p c i idle is small =
-    same_tests (eqb n p) (member_at held p o)
-    (λ e.
-    ap (λ b. b || does_on begin o.thread p o) none
-    ∙ does_it begin o.thread p o c refl (i ∙ eqb-true n p e))
-    (λ e.
-    let d : does_on begin o.thread p o ≡ true = sym (ap (λ b. b || does_on begin o.thread p o) none) ∙ e in
-    eq-eqb n p (sym i ∙ eqb-true _ _ (and_parts (eqb o.code begin && eqb o.thread o.thread) _ d).1))
+    same_from_decides (eqb n p) (member_at held p o) (Decides-eqb n p) (
+      λ e.
+          let d : does_on begin o.thread p o ≡ true = sym (ap (λ b. b || does_on begin o.thread p o) none) ∙ e in
+          sym i ∙ ((does_on_is begin o.thread p o).0 d).2,
+      λ e. ap (λ b. b || does_on begin o.thread p o) none ∙ (does_on_is begin o.thread p o).1 (c, refl, i ∙ e),
+    )
   where
     none : current held o.thread p ≡ false
     none =

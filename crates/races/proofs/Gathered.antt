@@ -1,7 +1,9 @@
 -- Race rows gathered by rising numbers: their count, their members and their order.
-use Rattle.std.proofs.Common.{◌≡◌, ℕ, zero, suc, ◌+◌, ◌<◌, ◌≤◌, Bool, true, false, cond, ◌⊎◌, List, [], ◌∷◌, ◌++◌, length, get_or, drop, set, sym, refl, ap, ◌∙◌, subst, inl, inr, ⊎_elim, add-one, arith, length-append, drop-cons}
+use Rattle.std.proofs.Common.{◌≡◌, ℕ, zero, suc, ◌+◌, ◌<◌, ◌≤◌, Bool, true, false, cond, ◌⊎◌, List, [], ◌∷◌, ◌++◌, length, get_or, drop, set, sym, refl, ap, ◌∙◌, subst, inl, inr, ⊎_elim, add-one, zero-add, map, ◌*◌, suc-mul, arith, length-append, drop-cons}
 use lib.Seq.{set_at}
 use Rattle.std.proofs.lemmas.List.{append_assoc, append-nil}
+use Rattle.std.specs.List.{sum, range_with_len}
+use Rattle.std.proofs.lemmas.List.FromFn.{sum_by-map-range_with_len_more}
 use Rattle.std.proofs.lemmas.Bool.{cases_eq}
 use Rattle.rules.specs.Answers.{In, here, there, Rises, Rising}
 use Rattle.rules.specs.declared.race.RaceRow.{RaceRow}
@@ -41,6 +43,10 @@ pub in_cond : (b : Bool) (r x : RaceRow) → In r (cond b (x ∷ []) []) → (b 
 in_cond true r x here = (refl, refl)
 in_cond true r x (there i) = elim i [ ]
 in_cond false r x i = elim i [ ]
+
+pub length_cond : (b : Bool) (x : RaceRow) → length (cond b (x ∷ []) []) ≤ 1
+length_cond true x = omega arith
+length_cond false x = omega arith
 
 pub rising_cond : (b : Bool) (x : RaceRow) → Rising (cond b (x ∷ []) [])
 rising_cond true x = (λ r i. elim i [ ], tt)
@@ -89,6 +95,27 @@ module _ (f : ℕ → List RaceRow) where
       let e = length-append (gathered f n) (f n) in
       omega arith)
       (cases_eq m (suc n))
+
+  pub gathered_sum : (n : ℕ) → sum (map (λ k. length (f k)) (range_with_len 0 n)) ≡ length (gathered f n)
+  gathered_sum zero = sym (ap length gathered_none)
+  gathered_sum (suc n) =
+      let lengths : ℕ → ℕ = λ m. sum (map (λ k. length (f k)) (range_with_len 0 m)) in
+      ap lengths (sym (add-one n))
+      ∙ sum_by-map-range_with_len_more (λ x. x) (λ k. length (f k)) 0 n n (zero-add n)
+      ∙ ap (λ m. m + length (f n)) (gathered_sum n)
+      ∙ sym (length-append (gathered f n) (f n))
+      ∙ sym (ap length (gathered_more n))
+      ∙ ap (λ m. length (gathered f m)) (add-one n)
+
+  pub gathered_few : (m n : ℕ) → ((k : ℕ) → k < n → length (f k) ≤ m) → length (gathered f n) ≤ n * m
+  gathered_few m zero each = let e = ap length gathered_none in omega arith
+  gathered_few m (suc n) each =
+      let grown : length (gathered f (suc n)) ≡ length (gathered f n) + length (f n) =
+      ap (λ m. length (gathered f m)) (sym (add-one n)) ∙ ap length (gathered_more n) ∙ length-append (gathered f n) (f n) in
+      let h = gathered_few m n (λ k l. each k (omega arith)) in
+      let l = each n (omega arith) in
+      let e : suc n * m ≡ n * m + m = suc-mul n m in
+      omega arith
 
   -- ---- Members
 

@@ -1,5 +1,5 @@
 -- What is gathered from the tests is the race list.
-use Rattle.std.proofs.Common.{◌≡◌, ℕ, ◌+◌, ◌<◌, ◌≤◌, min, Bool, true, false, not, ◌&&◌, eqb, List, [], ◌∷◌, ◌++◌, length, take, drop, set, Ok, sym, refl, ap, ◌∙◌, subst, ap₂, inl, inr, arith}
+use Rattle.std.proofs.Common.{◌≡◌, ℕ, ◌+◌, ◌<◌, ◌≤◌, ◌*◌, min, Bool, true, false, not, ◌&&◌, eqb, List, [], ◌∷◌, ◌++◌, length, take, drop, set, Ok, sym, refl, ap, ◌∙◌, subst, ap₂, inl, inr, arith}
 use Rattle.std.proofs.lemmas.List.{append_assoc, get_or-take, length-append, length_push, length-take-le, take_at, drop_at}
 use Rattle.std.proofs.lemmas.Slice.{drop-append-drop}
 use Rattle.std.proofs.lemmas.Bool.{and_left, and_right, or_parts, or_from, cond-true, cond-false}
@@ -22,7 +22,7 @@ use Rattle.races.specs.Chains.{NearestRight}
 use Rattle.races.specs.Classes.{accesses, conflicting, racing, class_at}
 use Rattle.races.specs.Listing.{gathered, race_row, race_of, races_of, races_below, all_races, Kept, Listed}
 use Rattle.races.proofs.Classes.{racing_is, class_is}
-use Rattle.races.proofs.Gathered.{in_cond, rising_cond, put_next, gathered_more, gathered_with, gathered_without, gathered_longer, gathered_nothing, gathered_from, gathered_has, gathered_rising}
+use Rattle.races.proofs.Gathered.{in_cond, length_cond, gathered_few, rising_cond, put_next, gathered_more, gathered_with, gathered_without, gathered_longer, gathered_nothing, gathered_from, gathered_has, gathered_rising}
 
 -- what is no access conflicts with nothing
 no_conflict : (a b : Row) → accesses b ≡ false → conflicting a b ≡ false
@@ -112,6 +112,17 @@ module _ (rows : List Row) (columns : List Column) (nearests : List NearestPosts
       let t = ap (λ (x : RaceRow). x.later) is' in
       inl (omega arith))
       n
+
+  pub races_few : (j : ℕ) → length (races_of rows columns nearests j) ≤ j
+  races_few j =
+      let h = gathered_few (race_of rows columns nearests j) 1 j (λ i l. length_cond (racing rows columns i j) _) in
+      omega arith
+
+  pub all_few : length (all_races rows columns nearests) ≤ 512 * 512
+  all_few =
+      let n = min (length rows) 512 in
+      let h = gathered_few (races_of rows columns nearests) 512 n (λ j l. let few = races_few j in omega arith) in
+      omega arith
 
   -- each makes a race record
   pub races_pass : (r : RaceRow) → In r (all_races rows columns nearests) → Passes r

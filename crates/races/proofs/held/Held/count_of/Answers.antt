@@ -8,13 +8,10 @@ use Rattle.races.proofs.held.Held.count_of.Goals.{then-races_with, else-races_wi
 
 pub returns-then-not-is_access : goal.returns-then-not-is_access
 returns-then-not-is_access c =
-    record {
-      counted =
-          sym
-          (ap length
-          (races_none c.args.self.now.rows.now c.args.self.now.columns.now c.args.self.now.nearests.now c.args.position (sym c.if-not-is_access.ensures)));
-      few = omega arith;
-    }
+    sym
+    (ap length
+    (races_none c.args.self.now.rows.now c.args.self.now.columns.now c.args.self.now.nearests.now c.args.position
+    (sym c.if-not-is_access.ensures)))
 
 pub loop-earlier-init : goal.loop-earlier-init
 loop-earlier-init c =
@@ -51,9 +48,5 @@ loop-earlier-preserved c =
 pub returns : goal.returns
 returns c =
     let e : c.loop-earlier.earlier ≡ c.args.position = omega (arith, length-take-le c.args.position c.args.self.now.rows.now) in
-    record {
-      counted =
-          c.loop-earlier.invariant.0
-          ∙ ap (λ k. length (gathered (race_of c.args.self.now.rows.now c.args.self.now.columns.now c.args.self.now.nearests.now c.args.position) k)) e;
-      few = omega (arith, c.loop-earlier.invariant.1);
-    }
+    c.loop-earlier.invariant.0
+    ∙ ap (λ k. length (gathered (race_of c.args.self.now.rows.now c.args.self.now.columns.now c.args.self.now.nearests.now c.args.position) k)) e
