@@ -69,12 +69,6 @@ module _ (trace : List Row) (i j : ℕ) where
       swapped d e = Decides-like _ (λ (p, (q, s)). (q, p, s)) (λ (q, p, s). (p, (q, s))) (Decides-and _ _ d e)
 
 module _ (held : List Row) (o : Row) where
-  abbrev pub trace : List Row
-  trace = held ++ o ∷ []
-
-  abbrev pub newest : ℕ
-  newest = length held
-
   newest_held : length held < length (held ++ o ∷ [])
   newest_held = let e = length-append held (o ∷ []) in omega arith
 

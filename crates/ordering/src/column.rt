@@ -33,6 +33,7 @@ pub fn task_of(tables: &Tables, operation: Operation) -> Option<u16>
     ensures member { (initial : ℕ → Bool) (held : List Row) → Matches initial held tables.now → ((operation_row operation).code ≡ begin → busy held (operation_row operation).thread ≡ false) → (p : ℕ) → is_of result p ≡ member_at held p (operation_row operation) }
     ensures found { result ≡ (if nat_eq (operation_row operation).code begin then Some (operation_row operation).item else (thread_at tables.now.threads (operation_row operation).thread).current) }
 {
+    // a plain number: the tables may hold any where they match no held list
     match operation.action() {
         Action::Begin(task) => Some(task.number()),
         _ => tables.current(operation.thread()),
