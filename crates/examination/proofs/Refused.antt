@@ -5,12 +5,12 @@ use Rattle.std.proofs.Math.Bool.{and-false}
 use Rattle.recording.specs.Codes.{post, begin, end}
 use Rattle.recording.specs.Lawful.{or_else}
 use Rattle.recording.specs.declared.row.Row.{Row}
-use Rattle.rules.specs.Acceptance.{Setting, busy, current, posted, waits, overtakes, thread_not_ready, wrong_target, wrong_queue, wrong_lock, not_admitted, refusal}
+use Rattle.rules.specs.Acceptance.{Judged, Setting, busy, current, posted, waits, overtakes, thread_not_ready, wrong_target, wrong_queue, wrong_lock, not_admitted, refusal}
 use Rattle.rules.specs.declared.faults.StateFault.{StateFault}
 use Rattle.rules.specs.declared.faults.StateFault.TheVariants.{Full, ThreadNotReady, WrongTarget, WrongQueue, WrongLock, OutOfTurn, NotAdmitted}
 use Rattle.tables.specs.Matches.{table_refusal}
 use Rattle.tables.proofs.Verdicts.{never_overtakes}
-use Rattle.examination.specs.Refusals.{Judged, discipline_refusal}
+use Rattle.examination.specs.Refusals.{discipline_refusal}
 
 -- out of turn with a task that overtakes, and without
 turn_parts :

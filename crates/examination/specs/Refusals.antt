@@ -1,5 +1,5 @@
--- What judging an operation answers, and what it is turned away for by the discipline alone.
-use Rattle.std.specs.Prelude.{◌≡◌, ℕ, Bool, ◌&&◌, List, [], ◌∷◌, Some, None, Option, Result, ◌==◌, MatchResult}
+-- What an operation is turned away for by the discipline alone.
+use Rattle.std.specs.Prelude.{ℕ, Bool, ◌&&◌, List, [], ◌∷◌, Option, ◌==◌}
 use Rattle.recording.specs.Codes.{begin}
 use Rattle.recording.specs.Faults.{first}
 use Rattle.recording.specs.Posts.{marks_in}
@@ -8,10 +8,6 @@ use Rattle.recording.specs.declared.row.Row.{Row}
 use Rattle.rules.specs.Acceptance.{Setting, posts_to, waits, overtakes, not_admitted}
 use Rattle.rules.specs.declared.faults.StateFault.{StateFault}
 use Rattle.rules.specs.declared.faults.StateFault.TheVariants.{OutOfTurn, NotAdmitted}
-
--- it is turned away for the refusal, if there is one
-abbrev pub Judged : Option StateFault → Result Unit StateFault → Type 0
-Judged refusal result = MatchResult result (λ _. refusal ≡ None) (λ f. refusal ≡ Some f)
 
 -- what only the discipline tells
 abbrev pub discipline_refusal : Setting → List Row → Row → Option StateFault

@@ -4,9 +4,9 @@ ghost use Rattle.recording.specs.Posts.{marks_in};
 ghost use Rattle.recording.specs.declared.row.Row.{Row};
 ghost use Rattle.recording.specs.Masks.{bit};
 ghost use Rattle.happens_before.specs.Theorems.{InRange, AllInRange};
-ghost use Rattle.rules.specs.Acceptance.{opened, overtakes, posts_to, waits as waits_at};
+ghost use Rattle.rules.specs.Acceptance.{Judged, opened, overtakes, posts_to, waits as waits_at};
 ghost use Rattle.tables.specs.Matches.{Matches};
-ghost use Rattle.examination.specs.Refusals.{discipline_refusal, Judged, goes_ahead};
+ghost use Rattle.examination.specs.Refusals.{discipline_refusal, goes_ahead};
 
 use dispatch::discipline::Discipline;
 use ordering::past::Past;

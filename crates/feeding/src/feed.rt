@@ -13,13 +13,13 @@ use files::reader::{Reader, Record};
 /// Judges a record and adds its operation.
 fn take<D: Discipline + Drop>(
     examination: &mut Examination<D>,
-    record: Record<'_>,
+    part: Record<'_>,
 ) -> Result<(), FeedFault>
-    ensures takes { Takes (setting_of D.Discipline.admission D.Discipline.precedence examination.old) (held examination.old) record.entry.number (row_in record.entry.bytes.now) result (held examination.new) }
+    ensures takes { Takes (setting_of D.Discipline.admission D.Discipline.precedence examination.old) (held examination.old) part.entry.number (row_in part.entry.bytes.now) result (held examination.new) }
     ensures setting { SameSetting examination.old examination.new }
 {
-    let number = record.number;
-    let operation = record.operation()?;
+    let number = part.number;
+    let operation = part.operation()?;
     examination
         .add(operation)
         .map_err(|fault| At { number, fault })?;

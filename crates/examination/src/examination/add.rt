@@ -3,12 +3,11 @@ ghost use Rattle.std.specs.Prelude.{◌≡◌, ℕ, true, ◌↔◌, [], ◌∷�
 ghost use Rattle.columns.specs.Positions.{has};
 ghost use Rattle.happens_before.specs.Order.{Before};
 ghost use Rattle.recording.specs.Rows.{operation_row};
-ghost use Rattle.rules.specs.Acceptance.{refusal};
+ghost use Rattle.rules.specs.Acceptance.{Judged, refusal};
 ghost use Rattle.rules.specs.Answers.{Count};
 ghost use Rattle.races.specs.Chains.{NearestTo};
 ghost use Rattle.examination.specs.Holding.{held, setting_of, SameSetting};
 ghost use Rattle.examination.specs.Calls.{Adds};
-ghost use Rattle.examination.specs.Refusals.{Judged};
 
 use crate::chain::post_of;
 use crate::examination::Examination;

@@ -2,9 +2,9 @@ use Rattle.std.proofs.Common.{◌≡◌, ◌≤◌, length, Some, subst}
 use Rattle.std.proofs.lemmas.Result.{err_from_is_err_and, MatchResult-at_ok, MatchResult-at_err}
 use Rattle.recording.specs.Masks.{bit}
 use Rattle.rules.proofs.Fair.{all_in_range}
-use Rattle.rules.specs.Acceptance.{opened, refusal}
+use Rattle.rules.specs.Acceptance.{Judged, opened, refusal}
 use Rattle.examination.specs.Holding.{held, setting_of}
-use Rattle.examination.specs.Refusals.{Judged, discipline_refusal}
+use Rattle.examination.specs.Refusals.{discipline_refusal}
 use Rattle.examination.proofs.Refused.{when_full, by_tables, by_discipline}
 use Rattle.examination.proofs.examination.Examination.judge.Goals as goal
 
