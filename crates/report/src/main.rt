@@ -2,26 +2,15 @@
 #![tactic(auto)]
 
 use anyhow::anyhow;
-use reporting::report::report;
-use std::io;
-use std::io::Read;
-
-/// One byte more than the longest recording has, so that a longer input has a wrong length too.
-const LIMIT: u64 = 6161;
-
-fn input(rt: &HostRuntime) -> io::Result<Vec<u8>> {
-    let mut bytes = Vec::new(rt.alloc());
-    rt.stdin().take(LIMIT).read_to_end(&mut bytes)?;
-    Ok(bytes)
-}
+use files::input::input;
+use reporting::report::{ReportLines, report};
 
 fn main(rt: HostRuntime) -> anyhow::Result<()> {
-    let file = input(&rt)?;
+    let file = input(rt.alloc(), rt.stdin())?;
     let report = report(rt.alloc(), &file)?;
-    rt.write_all(report.text.as_bytes())?;
-    if report.accepted {
-        Ok(())
-    } else {
-        Err(anyhow!("the recording is refused"))
+    rt.write_all(report.text().as_bytes())?;
+    match report {
+        ReportLines::Races(_) => Ok(()),
+        ReportLines::Fault(_) => Err(anyhow!("the recording is refused")),
     }
 }

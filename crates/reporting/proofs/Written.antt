@@ -1,29 +1,21 @@
--- Lists into places of their own.
-use Rattle.std.proofs.Common.{◌≡◌, ℕ, ◌<◌, List, ◌++◌, length, take, drop, sym, ap, ◌∙◌, subst, arith}
-use Rattle.std.proofs.lemmas.List.{take_at}
+-- A second list.
+use Rattle.std.proofs.Common.{ℕ, List, length, Ok, Err, Result, Vec, ap, refl, arith}
+use Rattle.std.specs.Result.{IsOk}
+use Rattle.std.specs.declared.alloc.Global.{Global}
 use Rattle.recording.specs.declared.row.Row.{Row}
 use Rattle.happens_before.specs.Order.{Precedence}
-use Rattle.rules.specs.Answers.{RaceList}
+use Rattle.rules.specs.declared.faults.TooShort.{TooShort}
 use Rattle.rules.specs.declared.race.RaceRow.{RaceRow}
 use Rattle.rules.proofs.Determined.{list_one}
+use Rattle.reporting.specs.Lists.{Lists}
 
-module _ (D : Precedence) (held : List Row) where
-  pub written_races :
-      (before after races : List RaceRow) (n : ℕ)
-      → RaceList D held races
-      → n ≡ length races
-      → after ≡ races ++ drop n before
-      → RaceList D held (take n after)
-  written_races before after races n is e w =
-      subst (RaceList D held) (sym (ap (take n) w ∙ take_at races (drop n before) n (sym e))) is
-
-  -- a list never needs more places than another of the same operations
-  pub no_more_needed :
-      (once again : List RaceRow) (first second : ℕ)
-      → RaceList D held once
-      → first ≡ length once
-      → RaceList D held again
-      → second ≡ length again
-      → first < second
-      → ⊥
-  no_more_needed once again first second a e b f l = let same = ap length (list_one D held once again a b) in omega arith
+-- where so many places are lent as a list of the same operations needs
+pub enough :
+    (D : Precedence) (held : List Row) (places : ℕ) (short : TooShort) (again : Result (Vec RaceRow Global) TooShort)
+    → Lists D held places (Err short)
+    → Lists D held short.needed again
+    → IsOk again
+enough D held places short (Ok races) once all = refl
+enough D held places short (Err more) once again =
+    let same = ap length (list_one D held once.0 again.0 once.1 again.1) in
+    absurd (omega (arith, same, once.2, again.2, again.3))

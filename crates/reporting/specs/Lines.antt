@@ -1,21 +1,8 @@
 -- The lines of a report.
-use Rattle.std.specs.Prelude.{ℕ, List, [], ◌∷◌, ◌++◌, length, codes, decimal, slice_index_or}
+use Rattle.std.specs.Prelude.{ℕ, List, ◌++◌, length, codes, decimal}
+use Rattle.rules.specs.Names.{class_name}
 use Rattle.rules.specs.declared.race.RaceRow.{RaceRow}
 use Rattle.recording.specs.Texts.{each}
-
--- by their numbers, from 1
-abbrev pub class_names : List (List ℕ)
-class_names =
-    []
-    ∷ codes "multi-threaded"
-    ∷ codes "co-enabled"
-    ∷ codes "delayed"
-    ∷ codes "cross-posted"
-    ∷ codes "unknown"
-    ∷ []
-
-abbrev pub class_name : ℕ → List ℕ
-class_name class = slice_index_or class_names class []
 
 abbrev pub head_line : ℕ → ℕ → List ℕ
 head_line ops races = codes "ops " ++ (decimal ops ++ (codes " races " ++ (decimal races ++ codes "\n")))

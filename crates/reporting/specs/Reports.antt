@@ -1,6 +1,5 @@
 -- What the report of a file says.
-use Rattle.std.specs.Prelude.{ℕ, Bool, true, false, List, [], ◌++◌, Ok, Err, string_bytes, codes, Result, String, slice_index}
-use Rattle.std.specs.declared.alloc.Global.{Global}
+use Rattle.std.specs.Prelude.{◌≡◌, ℕ, Bool, true, false, List, [], ◌++◌, Ok, Err, string_bytes, codes, slice_index}
 use Rattle.recording.specs.Bytes.{number_at}
 use Rattle.recording.specs.Disciplines.{discipline_at}
 use Rattle.recording.specs.declared.row.Row.{Row}
@@ -12,8 +11,8 @@ use Rattle.feeding.specs.Feeding.{Feeds}
 use Rattle.feeding.specs.Texts.{feed_text}
 use Rattle.feeding.specs.declared.fault.FeedFault.{FeedFault}
 use Rattle.reporting.specs.Lines.{report_text}
-use Rattle.reporting.specs.declared.error.ReportError.{ReportError}
-use Rattle.reporting.specs.declared.error.ReportError.TheVariants.{Fault, Memory}
+use Rattle.reporting.specs.declared.report.ReportLines.{ReportLines}
+use Rattle.reporting.specs.declared.report.ReportLines.TheVariants.{Races, Fault}
 
 -- the discipline and the initial threads that a file names
 abbrev pub setting_in : List ℕ → Setting
@@ -32,8 +31,15 @@ pub data Reported (file : List ℕ) : List ℕ → Bool → Type 0 where
       → Feeds (setting_in file) file [] (Err f) held
       → Reported file (feed_text f ++ codes "\n") false
 
--- the lines of the races, or the fault
-abbrev pub Examines : List ℕ → Result (String Global) ReportError → Type 0
-Examines file (Ok text) = Reported file (string_bytes text) true
-Examines file (Err (Fault f)) = (held : List Row) × Feeds (setting_in file) file [] (Err f) held
-Examines file (Err Memory) = Unit {0}
+abbrev pub lines_of : ReportLines → List ℕ
+lines_of (Races text) = string_bytes text
+lines_of (Fault text) = string_bytes text
+
+-- whether the file has no fault
+abbrev pub is_accepted : ReportLines → Bool
+is_accepted (Races text) = true
+is_accepted (Fault text) = false
+
+-- the line of this fault
+abbrev pub Refuses : FeedFault → ReportLines → Type 0
+Refuses f report = (lines_of report ≡ feed_text f ++ codes "\n") × (is_accepted report ≡ false)

@@ -1,7 +1,6 @@
 //! The report of a recording: its races, or its fault.
 #![tactic(auto)]
 
-mod error;
 mod lines;
 mod race_list;
 pub mod report;

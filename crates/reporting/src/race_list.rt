@@ -3,7 +3,7 @@ ghost use Rattle.std.specs.Prelude.{IfOk};
 ghost use Rattle.rules.specs.Answers.{In, RaceList};
 ghost use Rattle.rules.specs.Numbers.{Passes};
 ghost use Rattle.rules.specs.declared.race.RaceRow.{RaceRow};
-ghost use Rattle.examination.specs.Exact.{Exact, held};
+ghost use Rattle.examination.specs.Holding.{held};
 ghost use Rattle.reporting.specs.Lists.{Lists};
 
 use dispatch::discipline::Discipline;
@@ -29,7 +29,7 @@ fn list_in<D: Discipline + Drop>(
     places: usize,
 ) -> Result<Result<Vec<RaceRow>, TooShort>, AllocError>
     ensures pass { IfOk result (λ list. IfOk list (λ races. ((r : RaceRow) → In r races.items → Passes r))) }
-    ensures listed { Exact D.Discipline.precedence examination.now → IfOk result (Lists (D.Discipline.precedence examination.now.discipline) (held examination.now) places) }
+    ensures listed { IfOk result (Lists (D.Discipline.precedence examination.now.discipline) (held examination.now) places) }
 {
     let mut races = vec![in heap; UNWRITTEN; places]?;
     match examination.list(&mut races) {
@@ -47,14 +47,11 @@ pub(crate) fn races_of<D: Discipline + Drop>(
     examination: &Examination<D>,
 ) -> Result<Vec<RaceRow>, AllocError>
     ensures pass { IfOk result (λ races. ((r : RaceRow) → In r races.items → Passes r)) }
-    ensures listed { Exact D.Discipline.precedence examination.now → IfOk result (λ races. RaceList (D.Discipline.precedence examination.now.discipline) (held examination.now) races.items) }
+    ensures listed { IfOk result (λ races. RaceList (D.Discipline.precedence examination.now.discipline) (held examination.now) races.items) }
 {
     match list_in(heap, examination, FEW)? {
         Ok(races) => Ok(races),
-        Err(short) => match list_in(heap, examination, short.needed)? {
-            Ok(races) => Ok(races),
-            // never: a second list of the same operations needs as many places as the first
-            Err(_) => Ok(Vec::new(heap)),
-        },
+        // a second list of the same operations needs as many places as the first
+        Err(short) => Ok(list_in(heap, examination, short.needed)?.unwrap()),
     }
 }

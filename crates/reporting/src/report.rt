@@ -1,50 +1,57 @@
 //! The report of a file.
-ghost use Rattle.std.specs.Prelude.{IfOk, string_bytes};
-ghost use Rattle.reporting.specs.Reports.{Examines, Reported};
+ghost use Rattle.std.specs.Prelude.{◌≡◌, ◌++◌, IfOk, codes};
+ghost use Rattle.feeding.specs.Texts.{feed_text};
+ghost use Rattle.reporting.specs.Reports.{lines_of, is_accepted, Reported, Refuses};
 
-use crate::error::ReportError;
 use crate::lines::report_text;
 use crate::race_list::races_of;
 use examination::examination::Examination;
+use feeding::fault::FeedFault;
 use feeding::feed::feed;
 use files::header::Header;
 use std::alloc::{AllocError, Global};
 
 /// The lines about a file.
 #[derive(Drop)]
-pub struct ReportLines {
-    pub text: String,
-    /// The file has no fault, and the lines are its races.
-    pub accepted: bool,
+pub enum ReportLines {
+    /// The file has no fault, and these are its races.
+    Races(String),
+    /// Its fault, as the only line.
+    Fault(String),
 }
 
-/// The races of the file's operations, under its own discipline and initial threads.
-fn examine(heap: Global, file: &[u8]) -> Result<String, ReportError>
-    ensures { Examines file.now result }
+impl ReportLines {
+    /// The lines.
+    pub fn text(&self) -> &str
+        ensures { result.now ≡ lines_of self.now }
+    {
+        match self {
+            ReportLines::Races(text) | ReportLines::Fault(text) => text,
+        }
+    }
+}
+
+/// The report of a file that has a fault.
+fn refused(heap: Global, fault: FeedFault) -> Result<ReportLines, AllocError>
+    ensures { IfOk result (Refuses fault) }
 {
-    let header = Header::read(file)?;
-    let mut examination = Examination::open(heap, header.discipline, header.mask)?;
-    let ops = feed(&mut examination, file)?;
-    let races = races_of(heap, &examination)?;
-    let text = report_text(heap, ops, &races)?;
-    Ok(text)
+    Ok(ReportLines::Fault(format!(in heap; "{fault}\n")?))
 }
 
-/// The report of a file, or its fault as the only line.
+/// The report of a file, under its own discipline and initial threads, or its fault as the only line.
 pub fn report(heap: Global, file: &[u8]) -> Result<ReportLines, AllocError>
-    ensures { IfOk result (λ report. Reported file.now (string_bytes report.text) report.accepted) }
+    ensures { IfOk result (λ report. Reported file.now (lines_of report) (is_accepted report)) }
 {
-    match examine(heap, file) {
-        Ok(text) => Ok(ReportLines {
-            text,
-            accepted: true,
-        }),
-        Err(error) => match error {
-            ReportError::Fault(fault) => Ok(ReportLines {
-                text: format!(in heap; "{fault}\n")?,
-                accepted: false,
-            }),
-            ReportError::Memory => Err(AllocError),
-        },
+    let header = match Header::read(file) {
+        Ok(header) => header,
+        Err(fault) => return refused(heap, FeedFault::File(fault)),
+    };
+    let mut examination = Examination::open(heap, header.discipline, header.mask)?;
+    match feed(&mut examination, file) {
+        Ok(ops) => {
+            let races = races_of(heap, &examination)?;
+            Ok(ReportLines::Races(report_text(heap, ops, &races)?))
+        }
+        Err(fault) => refused(heap, fault),
     }
 }
