@@ -3,23 +3,16 @@
 #![tactic(auto)]
 
 use anyhow::anyhow;
-use script::tell::tell;
-use std::io;
+use script::tell::{Told, tell};
 use std::io::Read;
 
-fn input(rt: &HostRuntime) -> io::Result<Vec<u8>> {
-    let mut bytes = Vec::new(rt.alloc());
-    rt.stdin().read_to_end(&mut bytes)?;
-    Ok(bytes)
-}
-
 fn main(rt: HostRuntime) -> anyhow::Result<()> {
-    let script = input(&rt)?;
+    let mut script = Vec::new(rt.alloc());
+    rt.stdin().read_to_end(&mut script)?;
     let told = tell(rt.alloc(), &script)?;
-    rt.write_all(told.text.as_bytes())?;
-    if told.whole {
-        Ok(())
-    } else {
-        Err(anyhow!("the script is refused"))
+    rt.write_all(told.text().as_bytes())?;
+    match told {
+        Told::Whole(_) => Ok(()),
+        Told::Stopped(_) => Err(anyhow!("the script is refused")),
     }
 }

@@ -1,35 +1,25 @@
--- Where the lines of a text end.
-use Rattle.std.proofs.Common.{◌≡◌, ℕ, zero, suc, ◌+◌, ◌-◌, ◌<◌, List, [], ◌∷◌, ◌++◌, length, get_or, take, drop, sym, refl, ap, ◌∙◌, inl, inr, ⊎_elim, add-one, arith, length-append, drop-cons}
-use Rattle.std.proofs.lemmas.List.{take-append-drop, length-take-le, get_or-take, take_rest, drop_all}
+-- The lines of a text.
+use Rattle.std.proofs.Common.{◌≡◌, ℕ, zero, suc, ◌<◌, List, [], ◌∷◌, length, get_or, Some, None, Option, Bor, MatchOption, sym, refl, ap, ◌∙◌, subst, inl, inr, ⊎_elim, arith, length-append}
+use Rattle.std.proofs.lemmas.List.{nil_from_length}
 use Rattle.std.proofs.lemmas.Bool.{cases_eq}
-use Rattle.script.specs.Texts.{FirstLine, Lines, empty, begins}
+use Rattle.script.specs.Lines.{name_of, words_of, line_text, LineFits}
+use Rattle.script.specs.Texts.{Read, FirstLine, Lines, empty, begins}
+use Rattle.script.specs.declared.line.Line.{Line}
 
-pub line_ends :
-    (text : List ℕ) (i : ℕ)
-    → i < length text
-    → get_or text i 0 ≡ 10
-    → ((k : ℕ) → k < i → get_or text k 0 ≡ 10 → ⊥)
-    → FirstLine text (take i text) (take (length text - (i + 1)) (drop (i + 1) text))
-line_ends text i lt here none =
-    let long = length-take-le i text (omega arith) in
-    let rest : drop (i + 1) text ≡ take (length text - (i + 1)) (drop (i + 1) text) = sym (take_rest text (i + 1)) in
-    let from = drop-cons text i 0 lt ∙ (λ k. here k ∷ drop (sym (add-one i) k) text) ∙ ap (λ l. 10 ∷ l) rest in (
-      λ k h e. let below : k < i = omega arith in none k below (sym (get_or-take i text k 0 below) ∙ e),
-      inl (sym (take-append-drop i text) ∙ ap (λ l. take i text ++ l) from),
+-- what the first line is read as, where there may be no line
+pub first_read :
+    (text rest : List ℕ) (first : Option (Bor (List ℕ))) (r : Option Line)
+    → MatchOption first ((length text ≡ 0) × (rest ≡ text)) (λ line. (0 < length text) × FirstLine text line.now rest)
+    → MatchOption first (r ≡ None) (λ line. Read LineFits line_text line.now r)
+    → (line : List ℕ) × FirstLine text line rest × Read LineFits line_text line r
+first_read text rest (Some line) r taken reads = (line.now, taken.1, reads)
+first_read text rest None r over none =
+    let empty = nil_from_length text over.0 in (
+      [],
+      ((λ i lt. omega arith), inr (empty, over.1 ∙ empty)),
+      subst (Read LineFits line_text []) (sym none)
+          (λ l fits e. omega (arith, ap length e, length-append (name_of l) (32 ∷ words_of l))),
     )
-
-pub line_is_all :
-    (text : List ℕ)
-    → ((k : ℕ) → k < length text → get_or text k 0 ≡ 10 → ⊥)
-    → FirstLine text text (take (length text - length text) (drop (length text) text))
-line_is_all text none = (
-  none,
-  inr (refl, take_rest text (length text) ∙ drop_all (length text) text (omega arith)),
-)
-
-pub fewer_lines : (text line rest : List ℕ) → FirstLine text line rest → 0 < length text → length rest < length text
-fewer_lines text line rest f some =
-    ⊎_elim (λ e. omega (arith, ap length e, length-append line (10 ∷ rest))) (λ e. omega (arith, ap length e.1)) f.1
 
 -- ---- All lines: with one byte more at the start of the first
 

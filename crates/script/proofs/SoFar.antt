@@ -1,16 +1,15 @@
 -- What the lines of a text are read as, one line further.
-use Rattle.std.proofs.Common.{◌≡◌, ℕ, suc, ◌+◌, ◌<◌, List, [], ◌∷◌, ◌++◌, length, Some, None, Option, sym, ap, ◌∙◌, subst, subst₂, ⊎_elim, append_assoc, append-nil, arith, length-append}
+use Rattle.std.proofs.Common.{◌≡◌, ℕ, suc, ◌+◌, ◌<◌, List, [], ◌∷◌, ◌++◌, length, Some, None, Err, Option, sym, ap, ◌∙◌, subst, subst₂, ⊎_elim, append_assoc, append-nil, arith, length-append}
 use Rattle.std.proofs.lemmas.List.{nil_from_length}
 use Rattle.rules.specs.Runs.{Call}
 use Rattle.script.specs.Lines.{line_text, LineFits}
-use Rattle.script.specs.Readings.{Reads, ends, called, not_called, stops, ReadAs, steps_of, calls_of, Takes}
+use Rattle.script.specs.Readings.{Reads, ends, called, not_called, stops, ReadAs, Step, steps_of, calls_of, Takes, TakesOr}
 use Rattle.script.specs.Scripts.{most_lent}
 use Rattle.script.specs.Texts.{Read, FirstLine, Lines, empty, begins}
 use Rattle.script.specs.declared.fault.AtLine.{AtLine}
 use Rattle.script.specs.declared.fault.LineFault.{LineFault}
 use Rattle.script.specs.declared.line.Line.{Line}
 use Rattle.script.specs.declared.read.Script.{Script}
-use Rattle.script.specs.declared.read.Step.{Step}
 use Rattle.script.proofs.LineEnds.{lines_of}
 
 -- whatever the rest is read as, the text is read as these steps and calls and then that
@@ -55,7 +54,7 @@ module _ (text rest line after : List ℕ) (some : 0 < length rest) (first : Fir
   pub taken_more :
       (s t : Script) (l : Option Line)
       → Read LineFits line_text line l
-      → Takes s l None t
+      → Takes s l t
       → s.stop ≡ None
       → SoFar text rest s.left (steps_of s) (calls_of s)
       → (t.stop ≡ None) × SoFar text after t.left (steps_of t) (calls_of t)
@@ -76,7 +75,7 @@ module _ (text rest line after : List ℕ) (some : 0 < length rest) (first : Fir
   pub stopped :
       (s t : Script) (l : Option Line) (f : LineFault) (n : ℕ)
       → Read LineFits line_text line l
-      → Takes s l (Some f) t
+      → TakesOr s l (Err f) t
       → n ≡ length (steps_of t) + 2
       → SoFar text rest s.left (steps_of s) (calls_of s)
       → ReadAs text (steps_of t) (calls_of t) (Some (record { number = n; fault = f }))

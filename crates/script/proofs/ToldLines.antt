@@ -15,14 +15,13 @@ use Rattle.script.specs.Answers.{answer_lines}
 use Rattle.script.specs.Faults.{stop_text}
 use Rattle.script.specs.Lines.{line_text, LineFits}
 use Rattle.script.specs.Readings as reading
-use Rattle.script.specs.Readings.{Reads, ReadAs, steps_of, calls_of, step_lines, stop_lines, Answered}
+use Rattle.script.specs.Readings.{Step, Reads, ReadAs, steps_of, calls_of, step_lines, stop_lines, Answered}
 use Rattle.script.specs.Scripts.{Told, record_line, ends, answers, says_fault, stops, Tells, opens}
 use Rattle.script.specs.Texts.{FirstLine}
 use Rattle.script.specs.declared.fault.AtLine.{AtLine}
 use Rattle.script.specs.declared.fault.LineFault.TheVariants.{NotOpened}
 use Rattle.script.specs.declared.line.Line.TheVariants.{Open}
 use Rattle.script.specs.declared.read.Script.{Script}
-use Rattle.script.specs.declared.read.Step.{Step}
 
 pub told :
     {s : Setting} {n left : ℕ} {held after : List Row} {lines : List (List ℕ)} {steps : List Step} {calls : List Call}

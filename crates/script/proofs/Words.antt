@@ -1,12 +1,13 @@
 -- Words of a text: what their numbers are, and that a text has one way to begin with a word.
-use Rattle.std.proofs.Common.{◌≡◌, ℕ, zero, suc, ◌^◌, ◌<◌, ◌≤◌, Bool, true, not, ◌&&◌, eqb, List, [], ◌∷◌, length, get_or, None, Ok, decimal, Option, Result, sym, refl, ap, ◌∙◌, subst, ⊎_elim, arith, MatchOption}
+use Rattle.std.proofs.Common.{◌≡◌, ℕ, suc, ◌^◌, ◌<◌, ◌≤◌, true, leb, List, [], ◌∷◌, length, get_or, None, Ok, Err, decimal, Option, Result, sym, refl, ap, ◌∙◌, subst, ⊎_elim, arith, MatchOption}
 use Rattle.std.specs.Str.Parse.{digits_value, ParsesUnsigned}
 use Rattle.std.specs.Str.{all_ascii_digits}
-use Rattle.std.proofs.lemmas.Fmt.{decimal_digit, decimal_nonempty, first_decimal, digits_decimal, decimal-digits_value}
+use Rattle.std.specs.Bool.{then_some}
+use Rattle.std.proofs.lemmas.Fmt.{decimal_digit, decimal_nonempty, first_decimal, digits_decimal, decimal-digits_value, parse-decimal}
 use Rattle.std.proofs.lemmas.Str.Parse.{IsNumeralModel, numerals_by_value, tells_all_ascii_digits, not_in_digits, parse_plain}
 use Rattle.std.proofs.lemmas.Result.{OkIff-at_ok}
-use Rattle.std.proofs.lemmas.Bool.{cases_lt, and_parts, not-true, eq-eqb, both_ways}
-use Rattle.script.specs.Texts.{before}
+use Rattle.std.proofs.lemmas.Bool.{cases_lt, le-leb, lt-leb}
+use Rattle.script.specs.Texts.{Read, before}
 
 own : IsNumeralModel (λ ds. all_ascii_digits ds ≡ true) (digits_value 10)
 own = numerals_by_value _ tells_all_ascii_digits
@@ -39,6 +40,36 @@ reads_decimal bs r n h plus nought is =
     ap decimal p.1
     ∙ decimal-digits_value own bs p.0.0 p.0.1 (λ z. omega (arith, nought z, p.0.1)) p.0.2
 
+-- a number that is parsed so, and is kept if it is at most the largest
+pub kept_decimal :
+    {E : Type 0} (bs : List ℕ) (largest : ℕ) (parsed : Result ℕ E) (kept : Option ℕ)
+    → largest < 2 ^ 64
+    → ParsesUnsigned 64 10 bs parsed
+    → (get_or bs 0 0 ≡ 43 → ⊥)
+    → (get_or bs 0 0 ≡ 48 → length bs ≤ 1)
+    → ((n : ℕ) → parsed ≡ Ok n → kept ≡ then_some (leb n largest) n)
+    → ((e : E) → parsed ≡ Err e → kept ≡ None)
+    → Read (λ n. n ≤ largest) decimal bs kept
+kept_decimal {E} bs largest (Ok n) kept wide parses plus nought ok err =
+    let one : ◌≡◌ {A = Result ℕ E} (Ok n) (Ok n) = refl in
+    let is = reads_decimal {E = E} bs (Ok n) n parses plus nought one in
+    subst (λ r. Read (λ n. n ≤ largest) decimal bs r) (sym (ok n one))
+    (⊎_elim
+    (λ above.
+    subst (λ b. Read (λ n. n ≤ largest) decimal bs (then_some b n)) (sym (lt-leb n largest above))
+    (λ m le e.
+    let same : ◌≡◌ {A = Result ℕ E} (Ok n) (Ok m) = parse-decimal 64 m bs (Ok n) (omega arith) (omega arith) (sym e) parses in
+    let z : n ≡ m = cc in
+    omega arith))
+    (λ le. subst (λ b. Read (λ n. n ≤ largest) decimal bs (then_some b n)) (sym (le-leb n largest le)) (le, is))
+    (cases_lt largest n))
+kept_decimal {E} bs largest (Err e) kept wide parses plus nought ok err =
+    subst (λ r. Read (λ n. n ≤ largest) decimal bs r) (sym (err e refl))
+    (λ m le k.
+    let same : ◌≡◌ {A = Result ℕ E} (Err e) (Ok m) = parse-decimal 64 m bs (Err e) (omega arith) (omega arith) (sym k) parses in
+    let z : ◌≡◌ {A = ℕ} 0 1 = cc in
+    omega arith)
+
 pub none_read : {A : Type 0} {r : Option A} (P : Type 0) (Q : A → Type 0) → r ≡ None → P → MatchOption r P Q
 none_read P Q e p = subst (λ o. MatchOption o P Q) (sym e) p
 
@@ -48,16 +79,6 @@ NoSpace w = (i : ℕ) → i < length w → get_or w i 0 ≡ 32 → ⊥
 
 pub number_no_space : (n : ℕ) → n < 2 ^ 64 → NoSpace (decimal n)
 number_no_space n h = no_such_byte n 32 h (omega arith)
-
-abbrev pub spaceless : List ℕ → Bool
-spaceless [] = true
-spaceless (c ∷ cs) = not (eqb c 32) && spaceless cs
-
-pub spaceless_no_space : (w : List ℕ) → spaceless w ≡ true → NoSpace w
-spaceless_no_space [] h i lt e = omega arith
-spaceless_no_space (c ∷ cs) h zero lt e =
-    both_ways (eqb c 32) (not-true _ (and_parts _ _ h).0) (eq-eqb c 32 e)
-spaceless_no_space (c ∷ cs) h (suc i) lt e = spaceless_no_space cs (and_parts _ _ h).1 i (omega arith) e
 
 pub same_words :
     (a b x y : List ℕ) → NoSpace a → NoSpace b → before a x ≡ before b y → (a ≡ b) × (x ≡ y)

@@ -1,16 +1,9 @@
 -- Answers as text.
 use Rattle.std.specs.Prelude.{ℕ, List, ◌++◌, codes, decimal}
-use Rattle.rules.specs.declared.order.Order.{Order}
-use Rattle.rules.specs.declared.order.Order.TheVariants.{Same, Before, After, Unordered}
+use Rattle.rules.specs.Names.{order_name}
 use Rattle.rules.specs.declared.race.RaceRow.{RaceRow}
 use Rattle.recording.specs.Texts.{each}
 use Rattle.rules.specs.Runs.{Answer, added, cut_to, ordered, classed, listed, needs, refused}
-
-abbrev pub order_name : Order → List ℕ
-order_name Same = codes "same"
-order_name Before = codes "before"
-order_name After = codes "after"
-order_name Unordered = codes "unordered"
 
 -- a word and a number, as a line
 abbrev pub number_line : List ℕ → ℕ → List ℕ

@@ -1,5 +1,5 @@
 -- The lines of a script.
-use Rattle.std.specs.Prelude.{◌≡◌, ℕ, ◌^◌, ◌<◌, ◌≤◌, List, codes, decimal}
+use Rattle.std.specs.Prelude.{◌≡◌, ℕ, ◌^◌, ◌<◌, ◌≤◌, List, codes, decimal, Option, MatchOption, ◌≢◌}
 use Rattle.recording.specs.declared.row.Row.{Row}
 use Rattle.script.specs.Texts.{before, two}
 use Rattle.script.specs.declared.line.Line.{Line}
@@ -53,3 +53,9 @@ LineFits (Races n) = n ≤ 262144
 
 abbrev pub Named : List ℕ → Line → Type 0
 Named name l = LineFits l × (name_of l ≡ name)
+
+-- the discipline's number and the mask of the opening that has these bytes, or none where none has them
+abbrev pub Opens : List ℕ → Option (ℕ × ℕ) → Type 0
+Opens bytes opened =
+    MatchOption opened ((d m : ℕ) → LineFits (Open d m) → line_text (Open d m) ≢ bytes)
+    (λ x. LineFits (Open x.0 x.1) × (line_text (Open x.0 x.1) ≡ bytes))

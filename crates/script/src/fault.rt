@@ -1,5 +1,5 @@
 //! Why a script goes no further.
-ghost use Rattle.std.specs.Prelude.{◌≡◌, Some};
+ghost use Rattle.std.specs.Prelude.{Some};
 ghost use Rattle.script.specs.Faults.{fault_text, stop_text};
 
 use std::fmt;
@@ -18,23 +18,23 @@ pub enum LineFault {
 }
 
 /// A line's fault, with the line's number, from 1.
+// not `At` of files: that counts from 0, and another crate's type can have no `Display` here
 #[derive(Clone, Copy, PartialEq, Eq, Debug)]
 pub struct AtLine {
     pub number: usize,
     pub fault: LineFault,
 }
 
-impl LineFault {
-    /// What is wrong.
-    pub fn text(self) -> &'static str
-        ensures { result.now ≡ fault_text self }
-    {
-        match self {
+impl fmt::Display for LineFault {
+    ghost output = { λ f. Some (fault_text f) };
+
+    fn fmt<W: fmt::Write>(&self, f: &mut fmt::Formatter<W>) -> fmt::Result {
+        f.write_str(match self {
             LineFault::NotACall => "this is no call",
             LineFault::NotOpened => "this is no opening",
             LineFault::OpenedTwice => "a second opening",
             LineFault::TooManyPlaces => "too many places lent",
-        }
+        })
     }
 }
 
@@ -42,8 +42,6 @@ impl fmt::Display for AtLine {
     ghost output = { λ s. Some (stop_text s) };
 
     fn fmt<W: fmt::Write>(&self, f: &mut fmt::Formatter<W>) -> fmt::Result {
-        let number = self.number;
-        let fault = self.fault.text();
-        write!(f, "line {number}: {fault}")
+        write!(f, "line {}: {}", self.number, self.fault)
     }
 }

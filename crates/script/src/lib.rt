@@ -4,6 +4,7 @@
 pub mod answer;
 pub mod fault;
 pub mod line;
+mod lines;
 pub mod number;
 mod read;
 pub mod tell;

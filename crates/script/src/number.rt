@@ -12,8 +12,5 @@ pub fn number(word: &str, largest: u64) -> Option<u64>
     if word.starts_with('0') && word.len() > 1 {
         return None;
     }
-    match word.parse::<u64>() {
-        Ok(n) if n <= largest => Some(n),
-        _ => None,
-    }
+    word.parse().ok().filter(|n| *n <= largest)
 }

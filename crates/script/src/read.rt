@@ -1,13 +1,13 @@
 //! Scripts.
-ghost use Rattle.std.specs.Prelude.{◌≡◌, ◌≤◌, [], ◌∷◌, IfOk, Some, None};
+ghost use Rattle.std.specs.Prelude.{◌≡◌, ℕ, ◌≤◌, List, [], ◌∷◌, IfOk, OnOk, Ok, Some, None};
 ghost use Rattle.runs.specs.Calls.{call_of};
-ghost use Rattle.script.specs.Lines.{line_text, LineFits};
+ghost use Rattle.script.specs.Lines.{line_text, LineFits, Opens};
 ghost use Rattle.script.specs.Texts.{Read, FirstLine};
-ghost use Rattle.script.specs.declared.line.Line.TheVariants.{Open, Add, List as Races};
-ghost use Rattle.script.specs.declared.read.Step.TheVariants.{Called};
+ghost use Rattle.script.specs.declared.line.Line.TheVariants.{Add, List as Races};
 
 use crate::fault::{AtLine, LineFault};
 use crate::line::Line;
+use crate::lines::Lines;
 use recording::faults::record::RecordFault;
 use recording::operation::Operation;
 use recording::row::Row;
@@ -26,37 +26,18 @@ const PLACE: RaceRow = RaceRow {
     class: 7,
 };
 
-/// What a line after the opening asks for.
-#[derive(Clone, Copy)]
-pub(crate) enum Step {
-    /// The next call of the run.
-    Called,
-    /// The row is no operation, so that there is nothing to add.
-    NoOperation(RecordFault),
-}
-
 /// The lines after the opening, up to the first bad one.
 #[derive(Drop)]
 pub(crate) struct Script {
-    pub steps: Vec<Step>,
+    /// Of each line, that it is a call, or the fault of its row, so that there is nothing to add.
+    pub steps: Vec<Result<(), RecordFault>>,
+    /// In a list of their own, since a run takes the calls alone.
     pub calls: Vec<Call>,
     /// How many more places may be lent.
     pub left: usize,
     /// The bad line, if there is one.
     pub stop: Option<AtLine>,
     ghost bounded: { left ≤ 1048576 },
-}
-
-/// A text's first line without its end, and the lines after it.
-pub(crate) fn first_line(text: &[u8]) -> (&[u8], &[u8])
-    ensures { FirstLine text.now result.0.now result.1.now }
-{
-    for (i, byte) in text.iter().enumerate() {
-        if *byte == b'\n' {
-            return (&text[..i], &text[i + 1..]);
-        }
-    }
-    (text, &text[text.len()..])
 }
 
 /// The line that bytes write.
@@ -67,18 +48,25 @@ pub(crate) fn read_line(bytes: &[u8]) -> Option<Line>
     Line::read(text)
 }
 
-/// The number of a discipline and the mask that an opening writes.
-pub(crate) fn opening(bytes: &[u8]) -> Option<(u8, u64)>
-    ensures { Read (λ p. LineFits (Open p.0 p.1)) (λ p. line_text (Open p.0 p.1)) bytes.now result }
+/// The line that comes next.
+fn next_line(lines: &mut Lines) -> Option<Line>
+    ensures { (line : List ℕ) × FirstLine lines.old.rest.now line lines.new.rest.now × Read LineFits line_text line result }
 {
-    match read_line(bytes)? {
+    lines.next().and_then(read_line)
+}
+
+/// The number of a discipline and the mask that the next line opens an examination with.
+pub(crate) fn opening(lines: &mut Lines) -> Option<(u8, u64)>
+    ensures { (line : List ℕ) × FirstLine lines.old.rest.now line lines.new.rest.now × Opens line result }
+{
+    match next_line(lines)? {
         Line::Open(number, mask) => Some((number, mask)),
         _ => None,
     }
 }
 
 impl Script {
-    ghost use Rattle.script.specs.Readings.{steps_of, calls_of, Grown, Takes, ReadAs};
+    ghost use Rattle.script.specs.Readings.{steps_of, calls_of, Grown, Takes, TakesOr, ReadAs};
     ghost use Rattle.script.specs.Scripts.{most_lent};
 
     fn new(heap: Global) -> Script
@@ -93,69 +81,69 @@ impl Script {
     }
 
     /// Takes a call in.
-    fn call(&mut self, call: Call) -> Result<Option<LineFault>, AllocError>
-        ensures { IfOk result (λ fault. (fault ≡ None) × Grown self.old Called (call_of call ∷ []) self.new × (self.new.left ≡ self.old.left)) }
+    fn call(&mut self, call: Call) -> Result<(), AllocError>
+        ensures { OnOk result (Grown self.old (Ok tt) (call_of call ∷ []) self.new × (self.new.left ≡ self.old.left)) }
     {
-        self.steps.push(Step::Called)?;
+        self.steps.push(Ok(()))?;
         self.calls.push(call)?;
-        Ok(None)
+        Ok(())
     }
 
     /// Takes in the call that adds the operation of a row, or the row's fault.
-    fn add(&mut self, row: Row) -> Result<Option<LineFault>, AllocError>
-        ensures { IfOk result (λ fault. Takes self.old (Some (Add row)) fault self.new) }
+    fn add(&mut self, row: Row) -> Result<(), AllocError>
+        ensures { OnOk result (Takes self.old (Some (Add row)) self.new) }
     {
-        match Operation::from_row(row) {
+        match Operation::try_from(row) {
             Ok(operation) => self.call(Call::Add(operation)),
-            Err(fault) => {
-                self.steps.push(Step::NoOperation(fault))?;
-                Ok(None)
-            }
+            Err(fault) => Ok(self.steps.push(Err(fault))?),
         }
     }
 
-    /// Takes in a list of so many places.
-    fn list(&mut self, heap: Global, n: usize) -> Result<Option<LineFault>, AllocError>
-        ensures { IfOk result (λ fault. Takes self.old (Some (Races n)) fault self.new) }
+    /// Takes in a list of so many places, if so many may still be lent.
+    // one `Result` in the other: want of memory ends the whole script, and a fault only its lines
+    #[tactic(auto, using(crate::proofs::Taken::taken))]
+    fn list(&mut self, heap: Global, n: usize) -> Result<Result<(), LineFault>, AllocError>
+        ensures { IfOk result (λ taken. TakesOr self.old (Some (Races n)) taken self.new) }
     {
         if n > self.left {
-            return Ok(Some(LineFault::TooManyPlaces));
+            return Ok(Err(LineFault::TooManyPlaces));
         }
         self.left -= n;
-        self.call(Call::List(vec![in heap; PLACE; n]?))
+        self.call(Call::List(vec![in heap; PLACE; n]?))?;
+        Ok(Ok(()))
     }
 
     /// Takes in a line after the opening, or says why it is none.
-    fn take(&mut self, heap: Global, line: Option<Line>) -> Result<Option<LineFault>, AllocError>
-        ensures { IfOk result (λ fault. Takes self.old line fault self.new) }
+    #[tactic(auto, using(crate::proofs::Taken::taken))]
+    fn take(
+        &mut self,
+        heap: Global,
+        line: Option<Line>,
+    ) -> Result<Result<(), LineFault>, AllocError>
+        ensures { IfOk result (λ taken. TakesOr self.old line taken self.new) }
     {
-        let Some(line) = line else {
-            return Ok(Some(LineFault::NotACall));
-        };
         match line {
-            Line::Open(_, _) => Ok(Some(LineFault::OpenedTwice)),
-            Line::Add(row) => self.add(row),
-            Line::Cut(n) => self.call(Call::Cut(n)),
-            Line::Order(i, j) => self.call(Call::Order(i, j)),
-            Line::Class(i, j) => self.call(Call::Class(i, j)),
-            Line::List(n) => self.list(heap, n),
+            None => Ok(Err(LineFault::NotACall)),
+            Some(Line::Open(_, _)) => Ok(Err(LineFault::OpenedTwice)),
+            Some(Line::Add(row)) => Ok(Ok(self.add(row)?)),
+            Some(Line::Cut(n)) => Ok(Ok(self.call(Call::Cut(n))?)),
+            Some(Line::Order(i, j)) => Ok(Ok(self.call(Call::Order(i, j))?)),
+            Some(Line::Class(i, j)) => Ok(Ok(self.call(Call::Class(i, j))?)),
+            Some(Line::List(n)) => self.list(heap, n),
         }
     }
 
-    /// The script whose lines after the opening are those of the text.
-    pub(crate) fn read(heap: Global, text: &[u8]) -> Result<Script, AllocError>
-        ensures { IfOk result (λ script. ReadAs text.now (steps_of script) (calls_of script) script.stop) }
+    /// The script whose lines after the opening are these.
+    pub(crate) fn read(heap: Global, lines: Lines) -> Result<Script, AllocError>
+        ensures { IfOk result (λ script. ReadAs lines.entry.rest.now (steps_of script) (calls_of script) script.stop) }
     {
         let mut script = Script::new(heap);
-        let mut rest = text;
-        while !rest.is_empty() {
-            let (line, after) = first_line(rest);
-            if let Some(fault) = script.take(heap, read_line(line))? {
+        for line in lines {
+            if let Err(fault) = script.take(heap, read_line(line))? {
                 let number = script.steps.len() + 2;
                 script.stop = Some(AtLine { number, fault });
                 return Ok(script);
             }
-            rest = after;
         }
         Ok(script)
     }

@@ -1,48 +1,59 @@
 //! What a script's run answers, as text.
-ghost use Rattle.std.specs.Prelude.{◌≡◌, false, ◌++◌, map, IfOk, string_bytes, codes, OnOk};
+ghost use Rattle.std.specs.Prelude.{◌≡◌, ◌++◌, map, IfOk, string_bytes, codes, OnOk};
 ghost use Rattle.dispatch.specs.Recorded.{admission_of, precedence_of};
 ghost use Rattle.runs.specs.Calls.{answer_of};
 ghost use Rattle.rules.specs.Acceptance.{opened};
-ghost use Rattle.script.specs.Readings.{step_lines, stop_lines, Answered};
+ghost use Rattle.script.specs.Readings.{step_lines, stop_lines, Answered, told_text, is_whole};
 ghost use Rattle.script.specs.Scripts.{Tells};
 
 use crate::answer::push_answer;
 use crate::fault::{AtLine, LineFault};
-use crate::read::{Script, Step, first_line, opening};
+use crate::lines::Lines;
+use crate::read::{Script, opening};
 use files::faults::file::FileFault;
 use files::faults::read::ReadFault;
 use recording::discipline::DisciplineKind;
+use recording::faults::record::RecordFault;
 use runs::calls::Answer;
 use runs::run::run;
 use std::alloc::{AllocError, Global};
-use std::fmt;
 
 /// The text that a script is answered with.
 #[derive(Drop)]
-pub struct Told {
-    pub text: String,
+pub enum Told {
     /// Every line was answered.
-    pub whole: bool,
+    Whole(String),
+    /// The script was not run, or only up to its first bad line.
+    Stopped(String),
+}
+
+impl Told {
+    pub fn text(&self) -> &str
+        ensures { result.now ≡ told_text self.now }
+    {
+        match self {
+            Told::Whole(text) | Told::Stopped(text) => text,
+        }
+    }
 }
 
 /// Adds the lines of each step, where each call has the next answer.
-fn push_steps(text: &mut String, steps: &[Step], answers: &[Answer]) -> fmt::Result
+fn push_steps(
+    text: &mut String,
+    steps: &[Result<(), RecordFault>],
+    answers: &[Answer],
+) -> Result<(), AllocError>
     ensures { OnOk result (string_bytes text.new ≡ string_bytes text.old ++ step_lines steps.now (map answer_of answers.now)) }
 {
-    let mut next = 0;
+    let mut answers = answers.iter();
     for step in steps {
         match step {
-            Step::Called => {
-                if let Some(answer) = answers.get(next) {
+            Ok(()) => {
+                if let Some(answer) = answers.next() {
                     push_answer(text, answer)?;
-                    next += 1;
                 }
             }
-            Step::NoOperation(fault) => {
-                let number = fault.number();
-                let byte = fault.byte();
-                write!(text, "record {number} at {byte}\n")?;
-            }
+            Err(fault) => writeln!(text, "record {} at {}", fault.number(), fault.byte())?,
         }
     }
     Ok(())
@@ -51,16 +62,16 @@ fn push_steps(text: &mut String, steps: &[Step], answers: &[Answer]) -> fmt::Res
 /// Adds the lines of a script that opens an examination.
 fn push_script(
     text: &mut String,
-    steps: &[Step],
+    steps: &[Result<(), RecordFault>],
     answers: &[Answer],
     stop: Option<AtLine>,
-) -> fmt::Result
+) -> Result<(), AllocError>
     ensures { OnOk result (string_bytes text.new ≡ string_bytes text.old ++ (codes "opened\n" ++ (step_lines steps.now (map answer_of answers.now) ++ stop_lines stop))) }
 {
-    write!(text, "opened\n")?;
+    writeln!(text, "opened")?;
     push_steps(text, steps, answers)?;
     if let Some(at) = stop {
-        write!(text, "{at}\n")?;
+        writeln!(text, "{at}")?;
     }
     Ok(())
 }
@@ -72,47 +83,39 @@ fn answered(
     mask: u64,
     script: Script,
 ) -> Result<Told, AllocError>
-    ensures { IfOk result (λ told. Answered (opened (admission_of kind) (precedence_of kind) mask) script (string_bytes told.text) told.whole) }
+    ensures { IfOk result (λ told. Answered (opened (admission_of kind) (precedence_of kind) mask) script (told_text told) (is_whole told)) }
 {
     let Script {
         steps,
         calls,
-        left: _,
         stop,
+        ..
     } = script;
     let answers = run(heap, kind, mask, calls)?;
     let mut text = String::new(heap);
-    match push_script(&mut text, &steps, &answers, stop) {
-        Ok(()) => {
-            let whole = stop.is_none();
-            Ok(Told { text, whole })
-        }
-        Err(_) => Err(AllocError),
+    push_script(&mut text, &steps, &answers, stop)?;
+    if stop.is_none() {
+        Ok(Told::Whole(text))
+    } else {
+        Ok(Told::Stopped(text))
     }
-}
-
-/// The text of a script that is not run.
-fn refusal(text: String) -> Told
-    ensures { (result.text ≡ text) × (result.whole ≡ false) }
-{
-    Told { text, whole: false }
 }
 
 /// Runs a script, and tells the answers of its lines up to the first bad one.
 pub fn tell(heap: Global, script: &[u8]) -> Result<Told, AllocError>
-    ensures { IfOk result (λ told. Tells script.now (string_bytes told.text) told.whole) }
+    ensures { IfOk result (λ told. Tells script.now (told_text told) (is_whole told)) }
 {
-    let (line, rest) = first_line(script);
-    let Some((number, mask)) = opening(line) else {
+    let mut lines = Lines { rest: script };
+    let Some((number, mask)) = opening(&mut lines) else {
         let fault = LineFault::NotOpened;
         let at = AtLine { number: 1, fault };
-        return Ok(refusal(format!(in heap; "{at}\n")?));
+        return Ok(Told::Stopped(format!(in heap; "{at}\n")?));
     };
-    match DisciplineKind::new(number) {
-        Some(kind) => answered(heap, kind, mask, Script::read(heap, rest)?),
-        None => {
+    match DisciplineKind::try_from(number) {
+        Ok(kind) => answered(heap, kind, mask, Script::read(heap, lines)?),
+        Err(_) => {
             let fault = ReadFault::File(FileFault::Discipline);
-            Ok(refusal(format!(in heap; "{fault}\n")?))
+            Ok(Told::Stopped(format!(in heap; "{fault}\n")?))
         }
     }
 }

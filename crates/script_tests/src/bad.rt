@@ -1,6 +1,6 @@
 //! Scripts that end before their last line.
 use crate::tried::check_script;
-use script::tell::tell;
+use script::tell::{Told, tell};
 use std::test::Fail;
 
 const NO_CALL: &str = "opened\nline 2: this is no call\n";
@@ -59,12 +59,8 @@ fn too_many_places(rt: HostRuntime) -> Result<(), Fail> {
         rt.alloc(),
         b"open 0 0\nlist 262144\nlist 262144\nlist 262144\nlist 262144\nlist 0\nlist 1\n",
     )?;
-    assert!(rt;
-        told.text
-            .as_str()
-            .ends_with("\nline 7: too many places lent\n")
-    );
-    assert_eq!(rt; told.text.len(), 6291537);
-    assert!(rt; !told.whole);
+    assert!(rt; told.text().ends_with("\nline 7: too many places lent\n"));
+    assert_eq!(rt; told.text().len(), 6291537);
+    assert!(rt; matches!(told, Told::Stopped(_)));
     Ok(())
 }

@@ -12,7 +12,7 @@ const MOST_PLACES: u64 = 262144;
 
 /// The number before the first space, and the words after it.
 fn first(words: &str, largest: u64) -> Option<(u64, &str)>
-    ensures { MatchOption result ((n : ℕ) (rest : List ℕ) → n ≤ largest → before (decimal n) rest ≢ words.now) (λ x. (x.0 ≤ largest) × (before (decimal x.0) x.1.now ≡ words.now)) }
+    ensures { MatchOption result ((n : ℕ) (rest : List ℕ) → n ≤ largest → before (decimal n) rest ≢ words.now) (λ x. (x.0 ≤ largest) × (before (decimal x.0) x.1.now ≡ words.now) × ((n : ℕ) (rest : List ℕ) → before (decimal n) rest ≡ words.now → n < 2 ^ 64 → rest ≡ x.1.now)) }
 {
     let (word, rest) = words.split_once(' ')?;
     let n = number(word, largest)?;
@@ -21,7 +21,7 @@ fn first(words: &str, largest: u64) -> Option<(u64, &str)>
 
 /// Two numbers, the first at most the largest.
 fn two_numbers(words: &str, largest: u64) -> Option<(u64, u64)>
-    ensures { Read (λ p. (p.0 ≤ largest) × (p.1 < 2 ^ 64)) (λ p. two p.0 p.1) words.now result }
+    ensures { MatchOption result ((n m : ℕ) → n ≤ largest → m < 2 ^ 64 → two n m ≢ words.now) (λ x. (x.0 ≤ largest) × (x.1 < 2 ^ 64) × (two x.0 x.1 ≡ words.now)) }
 {
     let (n, rest) = first(words, largest)?;
     let m = number(rest, u64::MAX)?;
@@ -50,59 +50,20 @@ fn row(words: &str) -> Option<Row>
     })
 }
 
-fn open(words: &str) -> Option<Line>
-    ensures { Read (Named (codes "open")) words_of words.now result }
-{
-    let (discipline, mask) = two_numbers(words, 255)?;
-    Some(Line::Open(discipline as u8, mask))
-}
-
-fn add(words: &str) -> Option<Line>
-    ensures { Read (Named (codes "add")) words_of words.now result }
-{
-    let row = row(words)?;
-    Some(Line::Add(row))
-}
-
-fn cut(words: &str) -> Option<Line>
-    ensures { Read (Named (codes "cut")) words_of words.now result }
-{
-    let n = number(words, u64::MAX)?;
-    Some(Line::Cut(n as usize))
-}
-
-fn order(words: &str) -> Option<Line>
-    ensures { Read (Named (codes "order")) words_of words.now result }
-{
-    let (i, j) = two_numbers(words, u64::MAX)?;
-    Some(Line::Order(i as usize, j as usize))
-}
-
-fn class(words: &str) -> Option<Line>
-    ensures { Read (Named (codes "class")) words_of words.now result }
-{
-    let (i, j) = two_numbers(words, u64::MAX)?;
-    Some(Line::Class(i as usize, j as usize))
-}
-
-fn list(words: &str) -> Option<Line>
-    ensures { Read (Named (codes "list")) words_of words.now result }
-{
-    let n = number(words, MOST_PLACES)?;
-    Some(Line::List(n as usize))
-}
-
 /// The line with this name and these words after it.
 fn named(name: &str, words: &str) -> Option<Line>
     ensures { Read (Named name.now) words_of words.now result }
 {
     match name {
-        "open" => open(words),
-        "add" => add(words),
-        "cut" => cut(words),
-        "order" => order(words),
-        "class" => class(words),
-        "list" => list(words),
+        "open" => two_numbers(words, 255).map(|(discipline, mask)| Line::Open(
+            discipline as u8,
+            mask,
+        )),
+        "add" => row(words).map(Line::Add),
+        "cut" => number(words, u64::MAX).map(|n| Line::Cut(n as usize)),
+        "order" => two_numbers(words, u64::MAX).map(|(i, j)| Line::Order(i as usize, j as usize)),
+        "class" => two_numbers(words, u64::MAX).map(|(i, j)| Line::Class(i as usize, j as usize)),
+        "list" => number(words, MOST_PLACES).map(|n| Line::List(n as usize)),
         _ => None,
     }
 }

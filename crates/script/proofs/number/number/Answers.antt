@@ -1,9 +1,7 @@
-use Rattle.std.proofs.Common.{◌≡◌, ◌≤◌, length, get_or, sym, ⊎_elim, arith}
-use Rattle.std.proofs.lemmas.Fmt.{parse-decimal}
-use Rattle.std.proofs.lemmas.Result.{OkIff-at_ok}
+use Rattle.std.proofs.Common.{◌≡◌, ◌≤◌, length, get_or, ⊎_elim, arith, rules}
 use Rattle.std.proofs.lemmas.Str.Pattern.{starts_char}
 use Rattle.std.proofs.lemmas.Bool.{both_ways}
-use Rattle.script.proofs.Words.{no_plus, no_zero, reads_decimal}
+use Rattle.script.proofs.Words.{no_plus, no_zero, kept_decimal}
 use Rattle.script.proofs.number.number.Goals as goal
 
 pub returns-then-starts_with : goal.returns-then-starts_with
@@ -16,27 +14,12 @@ returns-then-word-gt1 c =
     let zero = starts_char 48 c.args.word.now c.starts_with-2.result c.starts_with-2.ensures.cases (omega arith) (omega arith) in
     λ n le e. no_zero n c.args.word.now (omega arith) e (zero.0 c.if-starts_with-2.true) c.if-word-gt1.true
 
-pub returns-in-Ok : goal.returns-in-Ok
-returns-in-Ok c =
+pub returns : goal.returns
+returns c =
     let plus = starts_char 43 c.args.word.now c.starts_with.result c.starts_with.ensures.cases (omega arith) (omega arith) in
     let zero = starts_char 48 c.args.word.now c.starts_with-2.result c.starts_with-2.ensures.cases (omega arith) (omega arith) in
     let alone : get_or c.args.word.now 0 0 ≡ 48 → length c.args.word.now ≤ 1 =
     λ z. ⊎_elim (λ w. w.1) (λ w. absurd (both_ways _ w (zero.1 z))) c.else-starts_with-2.either
-    in (
-      c.if-n-largest.true,
-      reads_decimal c.args.word.now c.parse.result c.in-Ok.n c.parse.ensures.value.0
-          (λ p. both_ways _ c.if-starts_with.false (plus.1 p)) alone c.in-Ok.is,
-    )
-
-pub returns-in_default : goal.returns-in_default
-returns-in_default c =
-    λ m le e.
-    let is = parse-decimal 64 m c.args.word.now c.parse.result (omega arith) (omega arith) (sym e) c.parse.ensures.value.0 in
-    let same : c.in-Ok.n ≡ m = cc in
-    omega arith
-
-pub returns-in_default-2 : goal.returns-in_default-2
-returns-in_default-2 c =
-    λ m le e.
-    let is = parse-decimal 64 m c.args.word.now c.parse.result (omega arith) (omega arith) (sym e) c.parse.ensures.value.0 in
-    c.in_default.ensures.value.0 (OkIff-at_ok c.parse.result _ _ m c.parse.ensures.value.0 is).0
+    in
+    kept_decimal c.args.word.now c.args.largest c.parse.result c.filter.result (omega arith) c.parse.ensures.value.0
+    (λ p. both_ways _ c.if-starts_with.false (plus.1 p)) alone (search rules) (search rules)

@@ -2,7 +2,7 @@ use Rattle.std.proofs.Common.{decimal, sym, ap, ◌∙◌, arith}
 use Rattle.std.proofs.lemmas.Str.Pattern.{split_after, split_parts}
 use Rattle.std.proofs.lemmas.Option.{MatchOption-at_some, MatchOption-at_none}
 use Rattle.script.specs.Texts.{before}
-use Rattle.script.proofs.Words.{none_read, number_no_space}
+use Rattle.script.proofs.Words.{none_read, number_no_space, after_number}
 use Rattle.script.proofs.line.reading.first.Goals as goal
 
 pub returns-in_err-word : goal.returns-in_err-word
@@ -31,4 +31,5 @@ returns c =
     (split_parts 32 c.args.words.now c.split_once.result c.split_once.ensures.cases (omega arith))
     in
     let n = c.in_ok-n.ensures in
-    (n.0, ap (λ w. before w c.in_ok-word.rest.now) n.1 ∙ sym s.0)
+    let is = ap (λ w. before w c.in_ok-word.rest.now) n.1 ∙ sym s.0 in
+    (n.0, is, λ m rest e small. after_number m c.in_ok-n.n c.args.largest small (omega arith) e (n.0, is))
