@@ -1,5 +1,6 @@
 -- A refusal is for want of room, for what the tables tell, or for what the discipline tells.
-use Rattle.std.proofs.Common.{◌≡◌, ◌<◌, ◌≤◌, Bool, true, false, cond, not, ◌&&◌, ◌||◌, eqb, leb, List, length, Some, None, Option, Result, sym, refl, ap, ◌∙◌, subst, le-leb}
+use Rattle.std.proofs.Common.{◌≡◌, ◌<◌, ◌≤◌, Bool, false, cond, not, ◌&&◌, ◌||◌, eqb, leb, List, length, Some, None, Option, Result, sym, ap, ◌∙◌, subst, arith, le-leb}
+use Rattle.std.proofs.lemmas.Grind.{common_steps}
 use borrow.Author.Tests.{lt-leb}
 use Rattle.std.proofs.Math.Bool.{and-false}
 use Rattle.recording.specs.Codes.{post, begin, end}
@@ -18,23 +19,14 @@ turn_parts :
     → cond (again || ((begins && (busy || (late || overtaken))) || ends)) (Some fault) rest
     ≡ or_else (cond (again || ((begins && (busy || (late || false))) || ends)) (Some fault) None)
     (cond (begins && overtaken) (Some fault) rest)
-turn_parts f rest true b u l o e = refl
-turn_parts f rest false true true l o e = refl
-turn_parts f rest false true false true o e = refl
-turn_parts f rest false true false false true true = refl
-turn_parts f rest false true false false true false = refl
-turn_parts f rest false true false false false true = refl
-turn_parts f rest false true false false false false = refl
-turn_parts f rest false false u l o true = refl
-turn_parts f rest false false u l o false = refl
+turn_parts f rest u v w x y z = grind (arith, common_steps)
 
 -- a test before both parts
 or_else_after :
     {F : Type 0} (b : Bool) (fault : F) (x y z : Option F)
     → x ≡ or_else y z
     → cond b (Some fault) x ≡ or_else (cond b (Some fault) y) z
-or_else_after true f x y z e = refl
-or_else_after false f x y z e = e
+or_else_after b f x y z e = grind (arith, common_steps)
 
 module _ (s : Setting) (held : List Row) (o : Row) where
   refusal_parts :

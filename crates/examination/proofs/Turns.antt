@@ -1,18 +1,17 @@
 -- Whether a waiting task goes before another, by the place of its post.
-use Rattle.std.proofs.Common.{◌≡◌, ℕ, ◌<◌, Bool, true, false, ◌&&◌, eqb, List, length, sym, subst, ⊎_elim, eq-eqb, eqb-true}
+use Rattle.std.proofs.Common.{arith, ◌≡◌, ℕ, ◌<◌, Bool, true, false, ◌&&◌, List, length, sym, subst, ⊎_elim}
+use Rattle.std.proofs.lemmas.Grind.{common_steps}
 use Rattle.std.specs.Bool.{MatchBool}
-use Rattle.std.proofs.lemmas.Bool.{cases_Bool, and_parts, and_from, and_left}
+use Rattle.std.proofs.lemmas.Bool.{cases_Bool, and_left}
 use Rattle.recording.specs.Codes.{post}
 use Rattle.recording.specs.declared.row.Row.{Row}
-use Rattle.happens_before.specs.Trace.{row, code, Posts}
+use Rattle.happens_before.specs.Trace.{row, Posts}
 use Rattle.rules.specs.Acceptance.{is_on, some_below}
 use Rattle.rules.proofs.Pushes.{some_below_true, some_below_false}
 
 module _ (held : List Row) (p : ℕ) (ahead : ℕ → ℕ → Bool) where
   posts_so : (b : ℕ) → is_on post p (row held b) ≡ true → Posts held b p
-  posts_so b e =
-      let (c, i) = and_parts (eqb (code held b) post) _ e in
-      (eqb-true _ _ c, eqb-true _ _ i)
+  posts_so b e = grind (arith, common_steps)
 
   -- where every post of the task leaves the test false, so does the whole
   none_ahead :
@@ -30,10 +29,8 @@ module _ (held : List Row) (p : ℕ) (ahead : ℕ → ℕ → Bool) where
   one_ahead :
       (b a : ℕ) → b < length held → Posts held b p → a < b → ahead b a ≡ true
       → true ≡ some_below (length held) (λ b. is_on post p (row held b) && some_below b (ahead b))
-  one_ahead b a l (c, i) u e =
-      sym
-      (some_below_true (length held) _ b l
-      (and_from (is_on post p (row held b)) _ (and_from _ _ (eq-eqb _ _ c) (eq-eqb _ _ i)) (some_below_true b (ahead b) a u e)))
+  one_ahead b a l h u e =
+      sym (some_below_true (length held) _ b l (let r = some_below_true b (ahead b) a u e in grind (arith, common_steps)))
 
   -- the task is never posted
   pub never_posted : ((b : ℕ) → Posts held b p → ⊥) → false ≡ some_below (length held) (λ b. is_on post p (row held b) && some_below b (ahead b))

@@ -1,6 +1,7 @@
 -- Taking the records of a file one by one.
 use Rattle.std.proofs.Common.{◌≡◌, ℕ, suc, ◌+◌, ◌*◌, ◌<◌, ◌≤◌, Bool, true, List, [], ◌∷◌, ◌++◌, length, take, drop, Some, None, Err, sym, ap, ◌∙◌, subst, ap₂, ⊎_elim, append_assoc, arith}
 use Rattle.std.proofs.lemmas.List.{drop-drop, length-drop}
+use Rattle.std.proofs.lemmas.Grind.{common_steps}
 use Rattle.std.proofs.lemmas.Bool.{cases_lt}
 use Rattle.recording.specs.Lawful.{lawful, fault_in}
 use Rattle.recording.specs.Records.{row_in}
@@ -53,12 +54,7 @@ module _
         (subst (λ y. refusal s' y (file_row file n) ≡ x) so_far (subst (λ y. refusal s' h y ≡ x) here r))
 
     pub held_next : (n' : ℕ) → n' ≡ n + 1 → h' ≡ h ++ o ∷ [] → h' ≡ held ++ rows_of file n'
-    held_next n' e w =
-        w
-        ∙ (ap (λ y. y ++ o ∷ []) so_far
-        ∙ (ap (λ y. (held ++ rows_of file n) ++ y ∷ []) here
-        ∙ (append_assoc held (rows_of file n) (file_row file n ∷ [])
-        ∙ (ap (λ y. held ++ y) (sym (rows_next file n)) ∙ ap (λ k. held ++ rows_of file k) (sym e)))))
+    held_next n' e w = let r = rows_next file n in grind (arith, append_assoc, common_steps)
 
     pub taken_next : (n' : ℕ) → n' ≡ n + 1 → lawful o ≡ true → refusal s' h o ≡ None → Taken s file held n'
     taken_next n' e w r k l =
