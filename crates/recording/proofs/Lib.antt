@@ -2,4 +2,3 @@ pub mod LowFirst
 pub mod FixedLength
 pub mod RecordBytes
 pub mod LawfulRows
-pub mod Added
