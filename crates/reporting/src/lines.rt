@@ -14,7 +14,7 @@ use std::alloc::{AllocError, Global};
 const LONGEST_LINE: usize = 23;
 
 /// The name of a class.
-/// Its `Display` would make the report of 111,132 races longer by 3.7 million instructions of 29.3 million.
+// not by `Display`: the report of 111,132 races takes 33.0 million instructions so, and 29.3 million by `push_str`
 fn class_name(class: RaceClass) -> &'static str
     ensures { result.now ≡ class_name (race_number class) }
 {
@@ -28,7 +28,7 @@ fn class_name(class: RaceClass) -> &'static str
 }
 
 /// Adds the line of a race.
-/// By the digits of its own, since `write!` would take half as many instructions again.
+// not by `write!`: the report of 111,132 races takes 47.9 million instructions so, and 29.3 million by `itoa`
 fn push_race(text: &mut String, digits: &mut Buffer, race: Race) -> Result<(), AllocError>
     ensures { OnOk result (string_bytes text.new ≡ string_bytes text.old ++ race_line (record { earlier = race.earlier; later = race.later; class = race_number race.class })) }
 {

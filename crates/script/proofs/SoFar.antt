@@ -4,7 +4,6 @@ use Rattle.std.proofs.lemmas.List.{nil_from_length}
 use Rattle.rules.specs.Runs.{Call}
 use Rattle.script.specs.Lines.{line_text, LineFits}
 use Rattle.script.specs.Readings.{Reads, ends, called, not_called, stops, ReadAs, Step, steps_of, calls_of, Takes, TakesOr}
-use Rattle.script.specs.Scripts.{most_lent}
 use Rattle.script.specs.Texts.{Read, FirstLine, Lines, empty, begins}
 use Rattle.script.specs.declared.fault.AtLine.{AtLine}
 use Rattle.script.specs.declared.fault.LineFault.{LineFault}
@@ -19,17 +18,6 @@ SoFar text rest left taken made =
     → Lines rest lines
     → Reads (length taken + 2) left lines steps calls stop
     → ReadAs text (taken ++ steps) (made ++ calls) stop
-
-pub none_so_far :
-    (text : List ℕ) (left : ℕ) (taken : List Step) (made : List Call)
-    → taken ≡ []
-    → made ≡ []
-    → left ≡ most_lent
-    → SoFar text text left taken made
-none_so_far text left [] [] e f g =
-    λ lines steps calls stop ls rs. (lines, ls, subst (λ n. Reads 2 n lines steps calls stop) g rs)
-none_so_far text left (x ∷ xs) made e f g = let z : ◌≡◌ {A = ℕ} 0 1 = cc in absurd (omega arith)
-none_so_far text left [] (x ∷ xs) e f g = let z : ◌≡◌ {A = ℕ} 0 1 = cc in absurd (omega arith)
 
 module _ (text rest line after : List ℕ) (some : 0 < length rest) (first : FirstLine rest line after) where
   one_more :
