@@ -1,31 +1,16 @@
 //! The lines of a report.
 ghost use Rattle.std.specs.Prelude.{◌≡◌, ◌++◌, IfOk, string_bytes, OnOk};
 ghost use Rattle.rules.specs.Answers.{In};
-ghost use Rattle.rules.specs.Names.{class_name};
 ghost use Rattle.rules.specs.Numbers.{race_number, Passes};
 ghost use Rattle.rules.specs.declared.race.RaceRow.{RaceRow};
 ghost use Rattle.reporting.specs.Lines.{race_line, race_lines, report_text};
 
 use itoa::Buffer;
-use rules::race::{Race, RaceClass, RaceRow};
+use rules::race::{Race, RaceRow};
 use std::alloc::{AllocError, Global};
 
 /// The most bytes that the line of a race has: `510 511 multi-threaded` and its end.
 const LONGEST_LINE: usize = 23;
-
-/// The name of a class.
-// not by `Display`: the report of 111,132 races takes 33.0 million instructions so, and 29.3 million by `push_str`
-fn class_name(class: RaceClass) -> &'static str
-    ensures { result.now ≡ class_name (race_number class) }
-{
-    match class {
-        RaceClass::MultiThreaded => "multi-threaded",
-        RaceClass::CoEnabled => "co-enabled",
-        RaceClass::Delayed => "delayed",
-        RaceClass::CrossPosted => "cross-posted",
-        RaceClass::Unknown => "unknown",
-    }
-}
 
 /// Adds the line of a race.
 // not by `write!`: the report of 111,132 races takes 47.9 million instructions so, and 29.3 million by `itoa`
@@ -36,7 +21,7 @@ fn push_race(text: &mut String, digits: &mut Buffer, race: Race) -> Result<(), A
     text.push_str(" ")?;
     text.push_str(digits.format(race.later))?;
     text.push_str(" ")?;
-    text.push_str(class_name(race.class))?;
+    text.push_str(race.class.name())?;
     text.push_str("\n")
 }
 

@@ -1,10 +1,8 @@
 //! Races and their classes.
-ghost use Rattle.std.specs.Prelude.{◌≡◌, ◌<◌, Some, MatchResult, ◌≢◌};
+ghost use Rattle.std.specs.Prelude.{◌≡◌, ◌<◌, MatchResult, ◌≢◌};
 ghost use Rattle.rules.specs.Names.{class_name};
 ghost use Rattle.rules.specs.Numbers.{race_number, Passes};
 ghost use Rattle.rules.specs.declared.race.RaceClass.{RaceClass};
-
-use std::fmt;
 
 /// The class of a race.
 #[derive(Clone, Copy, PartialEq, Eq, Debug)]
@@ -22,6 +20,20 @@ impl RaceClass {
         ensures { result ≡ race_number self }
     {
         self as u8
+    }
+
+    /// The class's name.
+    // and no `Display`: the report adds it as it stands, which `write!` does not do as fast
+    pub fn name(self) -> &'static str
+        ensures { result.now ≡ class_name (race_number self) }
+    {
+        match self {
+            RaceClass::MultiThreaded => "multi-threaded",
+            RaceClass::CoEnabled => "co-enabled",
+            RaceClass::Delayed => "delayed",
+            RaceClass::CrossPosted => "cross-posted",
+            RaceClass::Unknown => "unknown",
+        }
     }
 }
 
@@ -43,20 +55,6 @@ impl TryFrom<u8> for RaceClass {
             5 => Ok(RaceClass::Unknown),
             _ => Err(NotAClass),
         }
-    }
-}
-
-impl fmt::Display for RaceClass {
-    ghost output = { λ c. Some (class_name (race_number c)) };
-
-    fn fmt<W: fmt::Write>(&self, f: &mut fmt::Formatter<W>) -> fmt::Result {
-        f.write_str(match self {
-            RaceClass::MultiThreaded => "multi-threaded",
-            RaceClass::CoEnabled => "co-enabled",
-            RaceClass::Delayed => "delayed",
-            RaceClass::CrossPosted => "cross-posted",
-            RaceClass::Unknown => "unknown",
-        })
     }
 }
 

@@ -1,5 +1,6 @@
 //! Operations as text.
-ghost use Rattle.std.specs.Prelude.{◌≡◌, ◌<◌, Some};
+ghost use Rattle.std.specs.Prelude.{Some, is_some};
+ghost use Rattle.std.specs.Option.{unwrap_or};
 ghost use Rattle.recording.specs.Codes.{code_number};
 ghost use Rattle.recording.specs.Rows.{operation_row};
 ghost use Rattle.recording.specs.Texts.{further, marks_text, operation_name, operation_text};
@@ -46,21 +47,17 @@ impl fmt::Display for Code {
 }
 
 /// A number behind a comma, where the operation has it.
-#[derive(Drop)]
-struct Further {
-    has: bool,
-    number: u16,
-}
+#[derive(Clone, Copy)]
+struct Further(Option<u16>);
 
 impl fmt::Display for Further {
-    ghost output = { λ x. Some (further x.has x.number) };
+    ghost output = { λ x. Some (further (is_some x.0) (unwrap_or x.0 0)) };
 
     fn fmt<W: fmt::Write>(&self, f: &mut fmt::Formatter<W>) -> fmt::Result {
-        if self.has {
-            let number = self.number;
-            write!(f, ",{number}")?;
+        match self.0 {
+            Some(number) => write!(f, ",{number}"),
+            None => Ok(()),
         }
-        Ok(())
     }
 }
 
@@ -71,14 +68,8 @@ impl fmt::Display for Operation {
         let row = self.row();
         let code = self.code();
         let thread = row.thread;
-        let item = Further {
-            has: code.has_item(),
-            number: row.item,
-        };
-        let target = Further {
-            has: code.has_target(),
-            number: u16::from(row.target),
-        };
+        let item = Further(code.has_item().then_some(row.item));
+        let target = Further(code.has_target().then_some(u16::from(row.target)));
         let marks = Marks::from(row);
         write!(f, "{code}({thread}{item}{target}{marks})")
     }
