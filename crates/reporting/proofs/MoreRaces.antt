@@ -1,5 +1,5 @@
--- The races at the places of a list, and the row of a race.
-use Rattle.std.proofs.Common.{◌≡◌, ℕ, zero, suc, ◌<◌, List, [], ◌∷◌, length, get_or, Ok, Err, Result, MatchResult, refl, arith}
+-- The races at the places of a list, and answers that are always Ok.
+use Rattle.std.proofs.Common.{ℕ, zero, suc, ◌<◌, List, [], ◌∷◌, length, get_or, Ok, Err, Result, MatchResult, refl, arith}
 use Rattle.std.specs.Result.{IsOk}
 use Rattle.rules.specs.Answers.{In, here, there}
 use Rattle.rules.specs.declared.race.RaceRow.{RaceRow}
@@ -8,11 +8,6 @@ pub in_at : (xs : List RaceRow) (i : ℕ) (d : RaceRow) → i < length xs → In
 in_at [] i d h = absurd (omega arith)
 in_at (x ∷ xs) zero d h = here
 in_at (x ∷ xs) (suc i) d h = there (in_at xs i d (omega arith))
-
-pub same_row :
-    (r : RaceRow) (e l c : ℕ) → e ≡ r.earlier → l ≡ r.later → c ≡ r.class
-    → ◌≡◌ {A = RaceRow} (record { earlier = e; later = l; class = c }) r
-same_row r e l c p q s = λ k. record { earlier = p k; later = q k; class = s k }
 
 pub always_ok : {A E : Type 0} (r : Result A E) (P : A → Type 0) (X : Type 0) → MatchResult r P (λ e. X → ⊥) → X → IsOk r
 always_ok (Ok y) P X h x = refl

@@ -1,8 +1,7 @@
 -- Answers as text.
-use Rattle.std.specs.Prelude.{ℕ, List, ◌++◌, codes, decimal}
+use Rattle.std.specs.Prelude.{ℕ, List, ◌++◌, codes, decimal, flat_map}
 use Rattle.rules.specs.Names.{order_name}
 use Rattle.rules.specs.declared.race.RaceRow.{RaceRow}
-use Rattle.recording.specs.Texts.{each}
 use Rattle.rules.specs.Runs.{Answer, added, cut_to, ordered, classed, listed, needs, refused}
 
 -- a word and a number, as a line
@@ -14,7 +13,7 @@ place_line p =
     decimal p.earlier ++ (codes " " ++ (decimal p.later ++ (codes " " ++ (decimal p.class ++ codes "\n"))))
 
 abbrev pub place_lines : List RaceRow → List ℕ
-place_lines places = each place_line places
+place_lines places = flat_map place_line places
 
 abbrev pub answer_lines : Answer → List ℕ
 answer_lines (added p b) = codes "added " ++ (decimal p ++ (codes " " ++ (decimal b ++ codes "\n")))
