@@ -52,8 +52,3 @@ operation_text r =
     ++ (decimal r.thread
     ++ (further (has_item r.code) r.item
     ++ (further (has_target r.code) r.target ++ (marks_text (marks_in r) ++ codes ")")))))
-
--- the texts of a list's elements, one after another
-abbrev pub each : {A : Type 0} → (A → List ℕ) → List A → List ℕ
-each text [] = []
-each text (x ∷ xs) = text x ++ each text xs
