@@ -11,7 +11,7 @@ use std::marker::Model;
 pub struct Examination<D: Discipline> {
     discipline: D,
     mask: u64,
-    // Three lists, and not one of entries: each is lent as a slice of its own.
+    // three lists and not one of entries: each is lent to the crates below as a slice
     rows: Vec<Row>,
     /// By position: what is before it.
     columns: Vec<Column>,

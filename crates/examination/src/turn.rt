@@ -1,10 +1,9 @@
 //! What only the discipline tells of an operation.
-ghost use Rattle.std.specs.Prelude.{◌≡◌, ℕ, ◌<◌, Bool, true, ◌&&◌, List};
-ghost use Rattle.recording.specs.Posts.{marks_in};
+ghost use Rattle.std.specs.Prelude.{◌≡◌, ℕ, ◌<◌, Bool, ◌&&◌};
 ghost use Rattle.recording.specs.declared.row.Row.{Row};
 ghost use Rattle.recording.specs.Masks.{bit};
 ghost use Rattle.happens_before.specs.Theorems.{InRange, AllInRange};
-ghost use Rattle.rules.specs.Acceptance.{Judged, opened, overtakes, posts_to, waits as waits_at};
+ghost use Rattle.rules.specs.Acceptance.{Judged, opened, overtakes, posts_to};
 ghost use Rattle.tables.specs.Matches.{Matches};
 ghost use Rattle.examination.specs.Refusals.{discipline_refusal, goes_ahead};
 

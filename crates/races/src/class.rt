@@ -13,6 +13,7 @@ use recording::row::Row;
 use rules::race::RaceClass;
 use std::cmp::Ordering;
 
+// by number, since rows are plain numbers
 fn is_write(row: Row) -> bool
     ensures { result ≡ (row.code == write) }
 {
@@ -42,7 +43,7 @@ pub(crate) fn conflict(earlier: Row, later: Row) -> bool
 
 impl Held<'_> {
     /// Whether the column of `later` has `earlier`.
-    fn is_before(&self, earlier: usize, later: usize) -> bool
+    pub fn is_before(&self, earlier: usize, later: usize) -> bool
         ensures { result ≡ pairs_in self.now.columns.now earlier later }
     {
         self.columns

@@ -12,6 +12,7 @@ pub(crate) const MOST: usize = 512;
 
 impl<D: Discipline + Drop> Examination<D> {
     /// Opens an examination that holds nothing, with all the memory that it will need.
+    // discipline and mask apart: a struct of the two would be made only to be taken apart
     pub fn open(heap: Global, discipline: D, mask: u64) -> Result<Self, AllocError>
         ensures { IfOk result (λ e. (held e ≡ []) × (e.mask ≡ mask) × (e.discipline ≡ discipline)) }
     {

@@ -16,7 +16,7 @@ impl<D: Discipline + Drop> Examination<D> {
         requires { later < length (held self.now) }
         ensures { (result ≡ true) ↔ Before (D.Discipline.precedence self.now.discipline) (held self.now) earlier later }
     {
-        self.races().columns[later].contains(earlier)
+        self.races().is_before(earlier, later)
     }
 
     /// How the first position stands to the second.
