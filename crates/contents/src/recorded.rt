@@ -11,6 +11,7 @@ use recording::row::Row;
 pub struct Recording {
     discipline: DisciplineKind,
     mask: u64,
+    // rows and no operations, as the writer is lent them
     rows: Vec<Row>,
     ghost few: { vec_len rows ≤ 512 },
     ghost lawful: { (k : ℕ) → k < vec_len rows → lawfulRow (row_at rows.items k) ≡ true },

@@ -36,7 +36,7 @@ fn header_bytes(discipline: u8, mask: u64, count: u16) -> [u8; HEADER]
     ]
 }
 
-/// Puts bytes into the buffer from place `at` on.
+/// Puts bytes into the buffer from place `at` on: the buffer is lent, and written in parts.
 fn put(buffer: &mut [u8], at: usize, bytes: &[u8])
     requires { at + length bytes.now ≤ length buffer.old }
     ensures { buffer.new ≡ take at buffer.old ++ (bytes.now ++ drop (at + length bytes.now) buffer.old) }
@@ -57,6 +57,7 @@ fn write_records(rows: &[Row], buffer: &mut [u8])
 }
 
 /// Writes a recording into the buffer, and answers its length.
+// plain numbers, lawful or not: they are judged here
 pub fn write(
     discipline: u8,
     mask: u64,

@@ -8,6 +8,7 @@ use crate::timed::Timed;
 use recording::discipline::DisciplineKind;
 use recording::marks::Marks;
 
+// By two matches: one function that picks the discipline would have to hand out a `dyn`.
 impl Discipline for DisciplineKind {
     ghost admission = { admission_of };
 

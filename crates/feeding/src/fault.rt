@@ -8,6 +8,7 @@ use recording::faults::record::RecordFault;
 use rules::faults::StateFault;
 
 /// The first fault of a feed, by its layer; that of a record or of the state with the record's number in the file.
+// no `ReadFault` in it: its cases would be matched in two steps
 #[derive(Clone, Copy, PartialEq, Eq, Debug)]
 pub enum FeedFault {
     File(FileFault),

@@ -30,6 +30,7 @@ impl Record<'_> {
 }
 
 /// Hands out the records of a file in turn.
+// no chain over `as_chunks` of the library: with the closure that makes records it has no name
 #[derive(Drop)]
 pub struct Reader<'a> {
     records: &'a [u8],

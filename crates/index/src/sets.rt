@@ -28,6 +28,7 @@ struct TaskSets {
 }
 
 /// Sets of held positions.
+// no invariant says of which operations: their list is not stored here
 #[derive(Drop)]
 pub struct Index {
     threads: [ThreadSets; 64],

@@ -1,5 +1,5 @@
 //! The lines of a recording.
-ghost use Rattle.std.specs.Prelude.{◌<◌, vec_len, Some};
+ghost use Rattle.std.specs.Prelude.{◌<◌, Some};
 ghost use Rattle.contents.specs.Recordings.{contents_of};
 ghost use Rattle.listing.specs.Listings.{threads_text, head_lines, operation_lines, lines_of};
 
@@ -53,9 +53,8 @@ impl fmt::Display for Operations<'_> {
 
     fn fmt<W: fmt::Write>(&self, f: &mut fmt::Formatter<W>) -> fmt::Result {
         for number in 0..self.0.rows().len() {
-            if let Some(operation) = self.0.operation(number) {
-                write!(f, "{number} {operation}\n")?;
-            }
+            let operation = self.0.operation(number).unwrap();
+            write!(f, "{number} {operation}\n")?;
         }
         Ok(())
     }

@@ -1,4 +1,5 @@
 //! What stands before the begin of a task: its post, and the ends of tasks that hand over to it.
+//! Where that post stands is checked once, in `add_begin`; the bounds are handed on from there.
 ghost use Rattle.std.specs.Prelude.{◌≡◌, ℕ, ◌<◌, Bool, true, ◌⊎◌, ◌↔◌, length};
 ghost use Rattle.happens_before.specs.Trace.{row, marks, Posts};
 ghost use Rattle.happens_before.specs.Theorems.{AllInRange};

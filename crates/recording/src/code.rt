@@ -1,5 +1,5 @@
 //! The fourteen operations by their codes, and which fields each has.
-ghost use Rattle.std.specs.Prelude.{◌≡◌, false, Some, MatchResult};
+ghost use Rattle.std.specs.Prelude.{◌≡◌, false, MatchResult};
 ghost use Rattle.recording.specs.Codes.{code_number, known, has_target, has_task, has_lock, has_item};
 ghost use Rattle.recording.specs.declared.faults.record.RecordFault.TheVariants.{UnknownCode};
 

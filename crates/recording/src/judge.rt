@@ -2,7 +2,7 @@
 ghost use Rattle.std.specs.Prelude.{◌≡◌, true, Some, None, MatchResult};
 ghost use Rattle.recording.specs.Codes.{code_number};
 ghost use Rattle.recording.specs.Faults.{first};
-ghost use Rattle.recording.specs.Lawful.{fault_in, number_tests, zero_tests, marks_limit, may_delay};
+ghost use Rattle.recording.specs.Lawful.{fault_in, number_tests, zero_tests};
 
 use crate::code::Code;
 use crate::faults::record::RecordFault;

@@ -29,12 +29,14 @@ pub type Task = Number<OfTask, 512>;
 pub type Lock = Number<OfLock, 64>;
 
 /// A memory location, 0 to 65,535.
+// no `Number`: each 16-bit number is one, and 65,536 is no `u16`
 #[derive(Clone, Copy)]
 pub struct Location {
     number: u16,
     ghost bounded: { number < 2 ^ 16 },
 }
 
+// by hand, as `Clone` is
 impl<Of, const LIMIT: u16> Copy for Number<Of, LIMIT> {}
 
 mod bounded;

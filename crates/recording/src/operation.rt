@@ -44,10 +44,7 @@ impl Operation {
     pub fn code(self) -> Code
         ensures { code_number result ≡ self.row.code }
     {
-        match Code::try_from(self.row.code) {
-            Ok(code) => code,
-            Err(_) => unreachable!(),
-        }
+        Code::try_from(self.row.code).unwrap()
     }
 
     /// The acting thread.

@@ -13,7 +13,7 @@ use std::alloc::{AllocError, Global};
 const LONGEST_LINE: usize = 23;
 
 /// Adds the line of a race.
-// not by `write!`: the report of 111,132 races takes 47.9 million instructions so, and 29.3 million by `itoa`
+// not by `write!`: the report of 111,132 races would take 18.6 million instructions more
 fn push_race(text: &mut String, digits: &mut Buffer, race: Race) -> Result<(), AllocError>
     ensures { OnOk result (string_bytes text.new ≡ string_bytes text.old ++ race_line (record { earlier = race.earlier; later = race.later; class = race_number race.class })) }
 {

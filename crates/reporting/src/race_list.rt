@@ -22,7 +22,8 @@ const UNWRITTEN: RaceRow = RaceRow {
     class: 0,
 };
 
-/// The race list, where so many places are enough for it.
+/// The race list, where so many places are enough for it: plain rows, as the places are that are lent.
+// one `Result` in the other: want of memory ends the report, and too few places do not
 fn list_in<D: Discipline + Drop>(
     heap: Global,
     examination: &Examination<D>,

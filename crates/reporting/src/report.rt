@@ -1,6 +1,5 @@
 //! The report of a file.
-ghost use Rattle.std.specs.Prelude.{◌≡◌, ◌++◌, IfOk, codes};
-ghost use Rattle.feeding.specs.Texts.{feed_text};
+ghost use Rattle.std.specs.Prelude.{◌≡◌, IfOk};
 ghost use Rattle.reporting.specs.Reports.{lines_of, is_accepted, Reported, Refuses};
 
 use crate::lines::report_text;
@@ -12,6 +11,7 @@ use files::header::Header;
 use std::alloc::{AllocError, Global};
 
 /// The lines about a file.
+// not one type with what a script is told: other facts decide the cases
 #[derive(Drop)]
 pub enum ReportLines {
     /// The file has no fault, and these are its races.
@@ -42,6 +42,7 @@ fn refused(heap: Global, fault: FeedFault) -> Result<ReportLines, AllocError>
 pub fn report(heap: Global, file: &[u8]) -> Result<ReportLines, AllocError>
     ensures { IfOk result (λ report. Reported file.now (lines_of report) (is_accepted report)) }
 {
+    // by match: after `?` a fault and want of memory would have to be told apart again
     let header = match Header::read(file) {
         Ok(header) => header,
         Err(fault) => return refused(heap, FeedFault::File(fault)),

@@ -16,7 +16,7 @@ pub enum Call {
     List(Vec<RaceRow>),
 }
 
-/// What a call answers.
+/// What a call answers: a case for each answer and each kind of refusal, as the definitions have them.
 #[derive(Drop)]
 pub enum Answer {
     Added(Added),

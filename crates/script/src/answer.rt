@@ -8,7 +8,7 @@ use rules::race::{RaceClass, RaceRow};
 use runs::calls::Answer;
 use std::alloc::AllocError;
 
-/// The refusal of a position that is not held.
+/// The refusal of a position that is not held: `NotHeld` is one case, and has no number of its own.
 const NOT_HELD: u8 = 18;
 
 /// A class's number, or 0 for no race.
@@ -29,7 +29,7 @@ fn push_places(text: &mut String, places: &[RaceRow]) -> Result<(), AllocError>
 }
 
 /// Adds the lines of an answer.
-// no `Display`: `Answer` is another crate's type
+// no `Display`: `Answer` is another crate's type, and a wrapper for it would have this one use
 pub fn push_answer(text: &mut String, answer: &Answer) -> Result<(), AllocError>
     ensures { OnOk result (string_bytes text.new ≡ string_bytes text.old ++ answer_lines (answer_of answer.now)) }
 {

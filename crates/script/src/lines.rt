@@ -4,6 +4,7 @@ ghost use Rattle.std.specs.Iterator.{at_most};
 ghost use Rattle.script.specs.Texts.{FirstLine};
 
 /// The lines that are still to come, without their ends.
+// no `split` of the library: it gives one more line behind the last end
 #[derive(Drop)]
 pub(crate) struct Lines<'a> {
     pub rest: &'a [u8],

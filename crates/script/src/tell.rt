@@ -28,6 +28,7 @@ pub enum Told {
 }
 
 impl Told {
+    /// The text.
     pub fn text(&self) -> &str
         ensures { result.now ≡ told_text self.now }
     {

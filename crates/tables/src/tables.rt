@@ -21,10 +21,12 @@ use std::array;
 mod judging;
 
 /// What the held operations have made of each thread, lock and task.
+// no invariant says which these operations are: their list is not stored here
 #[derive(Clone, Copy)]
 pub struct Tables {
     threads: [ThreadRecord; 64],
-    /// The thread that holds each lock, a plain number as in a row.
+    /// The thread that holds each lock.
+    // a plain number: what an operation makes of a lock is said of any row, lawful or not
     holders: [Option<u16>; 64],
     tasks: [TaskRecord; 512],
 }

@@ -6,7 +6,8 @@ ghost use Rattle.tables.specs.Steps.{posted_at, retasked};
 
 use recording::action::Action;
 
-/// The post of a task: its position, and the thread that it posts to, plain numbers as in a row.
+/// The post of a task: its position, and the thread that it posts to.
+// plain numbers: what an operation makes of a task is said of any row, lawful or not
 #[derive(Clone, Copy)]
 pub struct Posting {
     pub position: u16,
@@ -16,6 +17,7 @@ pub struct Posting {
 #[derive(Clone, Copy)]
 pub struct TaskRecord {
     pub(crate) posting: Option<Posting>,
+    // beside the post, which is asked for before the begin and after it
     pub(crate) begun: bool,
 }
 

@@ -16,9 +16,11 @@ pub enum Stage {
 #[derive(Clone, Copy)]
 pub struct ThreadRecord {
     pub(crate) stage: Stage,
+    // flags beside the stage: a thread keeps its queue when it has finished
     pub(crate) queue: bool,
     pub(crate) looping: bool,
-    /// The current task, a plain number as in a row: what an operation makes of a record is said of its row.
+    /// The current task.
+    // a plain number: what an operation makes of a thread is said of any row, lawful or not
     pub(crate) current: Option<u16>,
 }
 

@@ -52,6 +52,7 @@ impl Recording {
         ensures { IfOk result (λ v. v.items ≡ file_of (contents_of self.now)) }
     {
         let mut bytes = vec![in heap; 0; HEADER + RECORD * self.rows.len()]?;
+        // by match, since a proof goes by its two cases
         match write(self.discipline.number(), self.mask, &self.rows, &mut bytes) {
             Ok(_) => Ok(bytes),
             Err(_) => unreachable!(),

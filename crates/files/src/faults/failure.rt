@@ -30,6 +30,7 @@ impl<F, T: Drop> From<AllocFailed<T>> for Failure<F> {
     }
 }
 
+// For each kind of fault apart: an impl for all of them would meet the one for want of memory.
 impl<F: From<FileFault>> From<FileFault> for Failure<F> {
     ghost from_gives = { λ x y. (f : F) × F.From.from_gives x f × (y ≡ Fault f) };
 

@@ -23,7 +23,7 @@ impl FileFault {
         self as u8
     }
 
-    /// The first byte, in the header, of the field that is at fault.
+    /// The first byte, in the header, of the field that is at fault; a number besides the fault's own, so by match.
     pub fn byte(self) -> u8
         ensures { result ≡ file_byte self }
     {

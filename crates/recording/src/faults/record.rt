@@ -30,7 +30,7 @@ impl RecordFault {
         }
     }
 
-    /// The first byte, in the record, of the field that is at fault.
+    /// The first byte, in the record, of the field that is at fault; a number besides the fault's own, so by match too.
     pub fn byte(self) -> u8
         ensures { result ≡ record_byte self }
     {

@@ -5,6 +5,7 @@ use crate::numbers::Number;
 use std::alloc::AllocError;
 use std::marker::PhantomData;
 
+// A checked constructor, as the library's `NonZero::new` is, and no conversion.
 impl<Of, const LIMIT: u16> Number<Of, LIMIT> {
     pub fn new(number: u16) -> Option<Self>
         ensures { MatchOption result (number < LIMIT → ⊥) (λ n. n.number ≡ number) }

@@ -1,5 +1,5 @@
 //! Reading a line.
-ghost use Rattle.std.specs.Prelude.{◌≡◌, ℕ, ◌^◌, ◌<◌, ◌≤◌, List, codes, decimal, MatchOption, ◌≢◌};
+ghost use Rattle.std.specs.Prelude.{◌≡◌, ℕ, ◌^◌, ◌<◌, ◌≤◌, List, decimal, MatchOption, ◌≢◌};
 ghost use Rattle.script.specs.Texts.{Read, before, two};
 ghost use Rattle.script.specs.Lines.{row_text, RowFits, Named, words_of, LineFits, line_text};
 
@@ -28,7 +28,7 @@ fn two_numbers(words: &str, largest: u64) -> Option<(u64, u64)>
     Some((n, m))
 }
 
-/// Seven numbers: the fields of a row.
+/// Seven numbers: the fields of a row, each within its field's limit when it is cast.
 fn row(words: &str) -> Option<Row>
     ensures { Read RowFits row_text words.now result }
 {

@@ -3,15 +3,10 @@ use Rattle.std.proofs.Output.{has_written_of_eq, has_written_append}
 use Rattle.recording.specs.Rows.{blank}
 use Rattle.listing.proofs.MoreLines.{lines_more}
 use Rattle.listing.proofs.lines.OperationsDisplay.fmt.Goals as goal
-use Rattle.listing.proofs.lines.OperationsDisplay.fmt.Goals.{in-Some+in_ok-write, in_default}
 
 pub loop-number-preserved : goal.loop-number-preserved
 loop-number-preserved g c =
     λ plain.
     let rows = vec_items c.args.self.now.0.now.rows in
     has_written_of_eq _ _ _ _ _ (sym (lines_more rows c.loop-number.number-counter blank (search rules)))
-    (has_written_append _ _ _ _ _ _ (c.loop-number.invariant plain)
-    (elim c.match-operation.branch [
-      | in-Some+in_ok-write w ↦ search rules
-      | in_default w ↦ search rules
-    ]))
+    (has_written_append _ _ _ _ _ _ (c.loop-number.invariant plain) (search rules))
