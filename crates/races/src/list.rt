@@ -79,7 +79,8 @@ impl Held<'_> {
             return from;
         }
         let column = self.column_at(later);
-        // a counter: of what is written through an adapter of `iter_mut` a proof knows nothing
+        // a counter: of what is written through an adapter of `iter_mut` a proof knows nothing;
+        // and a walk of its own: one that serves the count too would be longer than both
         let mut n = from;
         for (earlier, other) in self.rows[..later].iter().enumerate() {
             if races_with(*other, earlier, row, &column) {
@@ -101,6 +102,7 @@ impl Held<'_> {
         ensures { races.new ≡ all_races self.now.rows.now self.now.columns.now self.now.nearests.now ++ drop (length (all_races self.now.rows.now self.now.columns.now self.now.nearests.now)) races.old }
     {
         let mut n = 0;
+        // the next free place goes from turn to turn
         for later in 0..self.count_held() {
             n = self.write_of(later, n, races);
         }
