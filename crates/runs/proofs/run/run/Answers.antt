@@ -24,14 +24,6 @@ loop-call-init g c =
       omega (arith, ap length c.into_iter-call-iterator.ensures.into_iter_gives.0, w.capacity, c.len.ensures, c.args.calls.ok.0),
     )
 
-pub push_reserved-requires : goal.push_reserved-requires
-push_reserved-requires g c =
-    let i = c.loop-call.invariant in
-    let whole = ap length i.3 in
-    let split = length-append c.loop-call.yielded c.loop-call.call-iterator.rest.items in
-    let step = ap length c.in-Some.ensures.steps.0 in
-    omega (arith, whole, split, step, i.4, i.5, c.loop-call.answers.ok.0)
-
 pub loop-call-preserved : goal.loop-call-preserved
 loop-call-preserved g c =
     let d = c.in_ok-examination.examination.discipline in

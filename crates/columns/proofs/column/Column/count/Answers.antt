@@ -1,5 +1,5 @@
-use Rattle.std.proofs.Common.{◌≡◌, ◌+◌, ◌*◌, ap, ◌∙◌, arith}
-use Rattle.columns.specs.Positions.{has, tally}
+use Rattle.std.proofs.Common.{◌+◌, ◌*◌, arith}
+use Rattle.columns.specs.Positions.{has}
 use Rattle.columns.proofs.Counts.{counted, tally_none, tally_le}
 use Rattle.columns.proofs.column.Column.count.Goals as goal
 
@@ -16,8 +16,3 @@ overflow_add-n c =
     let e = loop-word-preserved c in
     let small = tally_le (has c.args.self.now) (64 * (c.loop-word.word-index + 1)) in
     record { fits = omega arith }
-
-pub returns : goal.returns
-returns c =
-    let e : c.loop-word.word-index ≡ 8 = omega arith in
-    c.loop-word.invariant ∙ ap (λ w. tally (has c.args.self.now) (64 * w)) e

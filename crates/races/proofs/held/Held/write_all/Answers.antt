@@ -1,5 +1,5 @@
-use Rattle.std.proofs.Common.{◌≡◌, min, ◌++◌, length, drop, sym, ap, ◌∙◌, ap₂, arith}
-use Rattle.races.specs.Listing.{races_of, races_below}
+use Rattle.std.proofs.Common.{◌++◌, length, sym, ap, arith}
+use Rattle.races.specs.Listing.{races_of}
 use Rattle.races.proofs.Gathered.{gathered_none}
 use Rattle.races.proofs.Listing.{room_below, written_more}
 use Rattle.races.proofs.held.Held.write_all.Goals as goal
@@ -20,13 +20,3 @@ loop-later-preserved c =
     c.args.races.now c.loop-later.races c.write_of-n.new.races
     c.loop-later.n c.write_of-n.result c.loop-later.later
     c.loop-later.invariant.0 c.loop-later.invariant.1 c.write_of-n.ensures.place c.write_of-n.ensures.written
-
-pub returns : goal.returns
-returns c =
-    let rows = c.args.self.now.rows.now in
-    let columns = c.args.self.now.columns.now in
-    let nearests = c.args.self.now.nearests.now in
-    let e : c.loop-later.later ≡ min (length rows) 512 = omega arith in
-    c.loop-later.invariant.1
-    ∙ ap₂ (λ k n. races_below rows columns nearests k ++ drop n c.args.races.now) e
-    (c.loop-later.invariant.0 ∙ ap (λ k. length (races_below rows columns nearests k)) e)

@@ -1,4 +1,4 @@
-use Rattle.std.proofs.Common.{◌≡◌, ◌+◌, ◌<◌, true, List, [], ◌++◌, length, take, drop, set, sym, ap, ◌∙◌, ap₂, arith, rules}
+use Rattle.std.proofs.Common.{◌≡◌, ◌+◌, ◌<◌, true, List, [], ◌++◌, length, take, drop, set, sym, ap, ◌∙◌, ap₂, arith}
 use Rattle.std.proofs.lemmas.List.{append-nil, length-take-le, take-append-drop}
 use Rattle.rules.specs.Numbers.{race_number}
 use Rattle.rules.specs.declared.race.RaceRow.{RaceRow}
@@ -47,14 +47,8 @@ room c =
     (races c) (before c) in
     omega (arith, h, c.loop-earlier.invariant.0, c.loop-earlier.auto.races, c.requires)
 
-pub offset_bounds-races-n : goal.offset_bounds-races-n
-offset_bounds-races-n c = let h = room c in search rules
-
 pub bounds-races-n : goal.bounds-races-n
 bounds-races-n c = room c
-
-pub overflow_add-n : goal.overflow_add-n
-overflow_add-n c = let h = room c in search rules
 
 pub loop-earlier-preserved : goal.loop-earlier-preserved
 loop-earlier-preserved c =
