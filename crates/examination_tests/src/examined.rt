@@ -2,6 +2,7 @@
 use dispatch::discipline::Discipline;
 use examination::examination::Examination;
 use recording::code::Code;
+use recording::discipline::DisciplineKind;
 use recording::operation::Operation;
 use recording::row::Row;
 use rules::race::RaceRow;
@@ -52,6 +53,20 @@ pub(crate) fn examined<D: Discipline + Drop>(
     let mut examination = Examination::open(rt.alloc(), discipline, mask)?;
     for row in rows {
         add(&mut examination, *row)?;
+    }
+    Ok(examination)
+}
+
+/// An examination that holds this many operations.
+pub(crate) fn holding(rt: HostRuntime, held: usize) -> Result<Examination<DisciplineKind>, Fail> {
+    let mut examination = examined(
+        rt,
+        DisciplineKind::AnyOrder,
+        1,
+        &[row(Code::ThreadInit, 0, 0, 0)],
+    )?;
+    for _ in 1..held {
+        add(&mut examination, row(Code::Read, 0, 9, 0))?;
     }
     Ok(examination)
 }

@@ -1,11 +1,9 @@
 //! Feeding files.
-use crate::examined::{add, examined, row};
+use crate::examined::{holding, row};
 use contents::writer::write;
-use examination::examination::Examination;
 use feeding::fault::FeedFault;
 use feeding::feed::feed;
 use recording::code::Code;
-use recording::discipline::DisciplineKind;
 use std::test::Fail;
 
 /// A file of five reads.
@@ -13,20 +11,6 @@ fn five_reads() -> [u8; 76] {
     let mut file = [0; 76];
     let _ = write(0, 0, &[row(Code::Read, 0, 9, 0); 5], &mut file);
     file
-}
-
-/// An examination that holds this many operations.
-fn holding(rt: HostRuntime, held: usize) -> Result<Examination<DisciplineKind>, Fail> {
-    let mut examination = examined(
-        rt,
-        DisciplineKind::AnyOrder,
-        1,
-        &[row(Code::ThreadInit, 0, 0, 0)],
-    )?;
-    for _ in 1..held {
-        add(&mut examination, row(Code::Read, 0, 9, 0))?;
-    }
-    Ok(examination)
 }
 
 #[test]

@@ -8,4 +8,6 @@ mod examined;
 #[cfg(test)]
 mod feeds;
 #[cfg(test)]
+mod limits;
+#[cfg(test)]
 mod made_up;
