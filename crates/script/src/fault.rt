@@ -1,5 +1,5 @@
 //! Why a script goes no further.
-ghost use Rattle.std.specs.Prelude.{Some};
+ghost use Rattle.std.specs.Prelude.{◌≡◌, Some};
 ghost use Rattle.script.specs.Faults.{fault_text, stop_text};
 
 use std::fmt;
@@ -25,16 +25,26 @@ pub struct AtLine {
     pub fault: LineFault,
 }
 
-impl fmt::Display for LineFault {
-    ghost output = { λ f. Some (fault_text f) };
-
-    fn fmt<W: fmt::Write>(&self, f: &mut fmt::Formatter<W>) -> fmt::Result {
-        f.write_str(match self {
+impl LineFault {
+    /// What is wrong.
+    // beside `Display`, which goes through a writer that may fail
+    pub fn text(self) -> &'static str
+        ensures { result.now ≡ fault_text self }
+    {
+        match self {
             LineFault::NotACall => "this is no call",
             LineFault::NotOpened => "this is no opening",
             LineFault::OpenedTwice => "a second opening",
             LineFault::TooManyPlaces => "too many places lent",
-        })
+        }
+    }
+}
+
+impl fmt::Display for LineFault {
+    ghost output = { λ f. Some (fault_text f) };
+
+    fn fmt<W: fmt::Write>(&self, f: &mut fmt::Formatter<W>) -> fmt::Result {
+        f.write_str(self.text())
     }
 }
 
