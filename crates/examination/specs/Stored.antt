@@ -9,7 +9,7 @@ use Rattle.ordering.specs.Agrees.{Agrees}
 use Rattle.ordering.specs.declared.past.Past.{Past}
 use Rattle.races.specs.Chains.{NearestRight}
 use Rattle.races.specs.declared.held.Held.{Held}
-use Rattle.examination.specs.Holding.{Holding, held}
+use Rattle.examination.specs.Holding.{Holding, held, FairlyHeld}
 
 -- by which an added operation is judged and placed
 pub record IsPast {D : Type 0} (precedence : D → Precedence) (e : Holding D) (past : Past D) : Type 0 where
@@ -23,6 +23,7 @@ pub record IsPast {D : Type 0} (precedence : D → Precedence) (e : Holding D) (
 -- by which races are told
 pub record IsHeld {D : Type 0} (precedence : D → Precedence) (e : Holding D) (lent : Held) : Type 0 where
   pub rows_are : lent.rows.now ≡ held e
+  pub fair : FairlyHeld e
   pub few : length lent.rows.now ≤ 512
   pub posted : PostedFirst lent.rows.now
   pub column_each : length lent.columns.now ≡ length lent.rows.now

@@ -3,7 +3,7 @@ ghost use Rattle.std.specs.Prelude.{◌≡◌, ◌<◌, true, ◌↔◌, length,
 ghost use Rattle.happens_before.specs.Order.{Before};
 ghost use Rattle.rules.specs.Answers.{Ordered};
 ghost use Rattle.examination.specs.Calls.{Told};
-ghost use Rattle.examination.specs.Holding.{held};
+ghost use Rattle.examination.specs.Holding.{held, FairlyHeld};
 
 use crate::examination::Examination;
 use dispatch::discipline::Discipline;
@@ -22,6 +22,7 @@ impl<D: Discipline + Drop> Examination<D> {
     /// How the first position stands to the second.
     pub fn order(&self, i: usize, j: usize) -> Result<Order, NotHeld>
         ensures told { Told (held self.now) i j result }
+        ensures fair { FairlyHeld self.now }
         ensures ordered { IfOk result (Ordered (D.Discipline.precedence self.now.discipline) (held self.now) i j) }
     {
         self.check_held(i, j)?;

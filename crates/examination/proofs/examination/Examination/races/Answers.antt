@@ -4,7 +4,7 @@ use Rattle.happens_before.specs.Theorems.{PostedFirst}
 use Rattle.rules.specs.Columns.{Right}
 use Rattle.rules.proofs.Fair.{posted_first}
 use Rattle.races.specs.Chains.{NearestRight}
-use Rattle.examination.specs.Holding.{Holding, held}
+use Rattle.examination.specs.Holding.{Holding, held, FairlyHeld}
 use Rattle.examination.proofs.examination.Examination.races.Goals as goal
 
 pub returns : goal.returns
@@ -17,6 +17,7 @@ returns g c =
     let same-nearests : c.deref-3.result.now ≡ vec_items e.nearests = c.deref-3.ensures.value in
     record {
       rows_are = same ∙ ap held c.self.view_is;
+      fair = subst FairlyHeld c.self.view_is (record { few = k.few; fair = k.fair });
       few = subst (λ h. length h ≤ 512) (sym same) k.few;
       posted = subst PostedFirst (sym same) (posted_first (bit e.mask) (vec_items e.rows) k.fair);
       column_each = ap length same-columns ∙ (k.column_each ∙ sym (ap length same));
