@@ -18,7 +18,8 @@ pub fn inspect(heap: Global, file: &[u8]) -> Result<String, Failure<ReadFault>>
     let again = recording.to_bytes(heap)?;
     let listing = Listing {
         recording: &recording,
-        same: again.as_slice() == file,
+        again: &again,
+        file,
     };
     Ok(format!(in heap; "{listing}")?)
 }

@@ -1,5 +1,6 @@
 //! The lines of a recording.
 ghost use Rattle.std.specs.Prelude.{◌<◌, Some};
+ghost use Rattle.std.specs.Str.{bytes_eq};
 ghost use Rattle.contents.specs.Recordings.{contents_of};
 ghost use Rattle.listing.specs.Listings.{threads_text, head_lines, operation_lines, lines_of};
 
@@ -60,21 +61,26 @@ impl fmt::Display for Operations<'_> {
     }
 }
 
-/// The lines of a recording, and whether it has the same bytes when it is written again.
+/// The lines of a recording, and whether it has the file's bytes when it is written again.
 #[derive(Clone, Copy)]
 pub(crate) struct Listing<'a> {
     pub(crate) recording: &'a Recording,
-    pub(crate) same: bool,
+    pub(crate) again: &'a [u8],
+    pub(crate) file: &'a [u8],
 }
 
 impl fmt::Display for Listing<'_> {
-    ghost output = { λ l. Some (lines_of (contents_of l.recording.now) l.same) };
+    ghost output = { λ l. Some (lines_of (contents_of l.recording.now) (bytes_eq l.again.now l.file.now)) };
 
     fn fmt<W: fmt::Write>(&self, f: &mut fmt::Formatter<W>) -> fmt::Result {
         let head = Head(self.recording);
         let operations = Operations(self.recording);
         let count = self.recording.rows().len();
-        let bytes = if self.same { "same" } else { "other" };
+        let bytes = if self.again == self.file {
+            "same"
+        } else {
+            "other"
+        };
         write!(
             f,
             "{head}{operations}{count} operations read, written again: {bytes} bytes\n"
