@@ -1,10 +1,9 @@
 -- The bits of a word.
-use Rattle.std.proofs.Common.{◌≡◌, ℕ, zero, suc, ◌+◌, ◌/◌, ◌%◌, ◌^◌, ◌<◌, min, max, true, false, not, ◌&&◌, ◌||◌, eqb, sym, refl, ap, ◌∙◌, ⊎_elim, one-add, arith}
+use Rattle.std.proofs.Common.{◌≡◌, ℕ, zero, suc, ◌+◌, ◌/◌, ◌%◌, ◌^◌, ◌<◌, min, max, true, false, not, ◌&&◌, ◌||◌, eqb, sym, refl, ap, ◌∙◌, ⊎_elim, one-add, pow-suc, div-one, arith}
 use lib.Bits.{bit_or, bit_and, bit_xor}
-use mir.Syntax.{w64}
-use Rattle.std.specs.Int.{bit_at, trailing_zeros}
+use Rattle.std.specs.Int.{bit_at}
 use Rattle.std.proofs.lemmas.Bool.{cases_eq, eq-eqb, ne_eqb}
-use Rattle.std.proofs.lemmas.Nat.Bits.{bit_at_or, bit_at_and, bit_at_xor, bit_at-zero, bit_at-suc, bit_at-pow_same, bit_at-pow_other, bit_at-trailing_zeros, bit_at-lt}
+use Rattle.std.proofs.lemmas.Nat.Bits.{bit_at_or, bit_at_and, bit_at_xor, bit_at-zero, bit_at-suc, bit_at-pow_same, bit_at-pow_other, bit_at-lt}
 use Rattle.columns.specs.Positions.{bit}
 
 pub digit : (P : ℕ → Type 0) → P 0 → P 1 → (x : ℕ) → x < 2 → P x
@@ -50,8 +49,13 @@ bit_power j k =
     (λ ne. ap (λ x. eqb x 1) (bit_at-pow_other j k ne) ∙ sym (ne_eqb k j ne))
     (cases_eq k j)
 
--- a word other than 0 has a bit
-pub some_bit : (n : ℕ) → n < 2 ^ 64 → 0 < n → (b : ℕ) × (b < 64) × (bit n b ≡ true)
-some_bit n h p =
-    let lowest = bit_at-trailing_zeros w64 n p h in
-    (trailing_zeros w64 n, lowest.0, eq-eqb (bit_at n (trailing_zeros w64 n)) 1 lowest.1)
+-- a number of w bits other than 0 has one of them
+pub some_bit : (w n : ℕ) → n < 2 ^ w → 0 < n → (b : ℕ) × (b < w) × (bit n b ≡ true)
+some_bit zero n h p = absurd (let z : ⊥ = omega arith in z)
+some_bit (suc w) n h p = ⊎_elim odd (λ o. let e = pow-suc 2 w in later (some_bit w (n / 2) (omega arith) (omega arith))) (cases_eq (n % 2) 1)
+  where
+    odd : n % 2 ≡ 1 → (b : ℕ) × (b < suc w) × (bit n b ≡ true)
+    odd e = (0, omega arith, ap (λ x. eqb (x % 2) 1) (div-one n) ∙ eq-eqb (n % 2) 1 e)
+
+    later : (b : ℕ) × (b < w) × (bit (n / 2) b ≡ true) → (b : ℕ) × (b < suc w) × (bit n b ≡ true)
+    later (b, l, e) = (1 + b, omega arith, bit_half n b ∙ e)

@@ -15,7 +15,7 @@ module _ (x y : Column) where
   pub met : (w : ℕ) → w < 8 → word x w < 2 ^ 64 → (shared w ≡ 0 → ⊥) → Meet (has x) (has y)
   met w h fits some =
       let low = and_le_l (word x w) (word y w) in
-      let b = some_bit (shared w) (omega arith) (omega arith) in
+      let b = some_bit 64 (shared w) (omega arith) (omega arith) in
       let both = and_parts (bit (word x w) b.0) (bit (word y w) b.0) (sym (bit_of_and (word x w) (word y w) b.0) ∙ b.2) in
       (64 * w + b.0, has_at x w b.0 h b.1 ∙ both.0, has_at y w b.0 h b.1 ∙ both.1)
 

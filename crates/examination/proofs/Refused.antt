@@ -1,7 +1,7 @@
 -- A refusal is for want of room, for what the tables tell, or for what the discipline tells.
-use Rattle.std.proofs.Common.{◌≡◌, ◌<◌, ◌≤◌, Bool, false, cond, not, ◌&&◌, ◌||◌, eqb, leb, List, length, Some, None, Option, Result, sym, ap, ◌∙◌, subst, arith, le-leb}
+use Rattle.std.proofs.Common.{◌≡◌, ◌<◌, ◌≤◌, Bool, true, false, cond, not, ◌&&◌, ◌||◌, eqb, leb, List, length, is_some, Some, None, Option, Result, sym, refl, ap, ◌∙◌, subst, arith, le-leb, leb-false}
 use Rattle.std.proofs.lemmas.Grind.{common_steps}
-use borrow.Author.Tests.{lt-leb}
+use borrow.Author.Tests.{clash, lt-leb}
 use Rattle.std.proofs.Math.Bool.{and-false}
 use Rattle.recording.specs.Codes.{post, begin, end}
 use Rattle.recording.specs.Lawful.{or_else}
@@ -29,7 +29,7 @@ or_else_after :
 or_else_after b f x y z e = grind (arith, common_steps)
 
 module _ (s : Setting) (held : List Row) (o : Row) where
-  refusal_parts :
+  pub refusal_parts :
       refusal s held o
       ≡ cond (leb 512 (length held)) (Some Full) (or_else (table_refusal s.initial held o) (discipline_refusal s held o))
   unfolding refusal table_refusal
@@ -55,6 +55,21 @@ module _ (s : Setting) (held : List Row) (o : Row) where
       (Some OutOfTurn)
       (cond (and-false (eqb o.code post) i) (Some NotAdmitted) None))
       (discipline_refusal s held o)))))))
+
+  -- what is accepted is refused by no part
+  pub accepted_parts :
+      refusal s held o ≡ None
+      → (length held < 512) × (table_refusal s.initial held o ≡ None) × (discipline_refusal s held o ≡ None)
+  accepted_parts e = go (leb 512 (length held)) (table_refusal s.initial held o) refl (sym refusal_parts ∙ e)
+    where
+      go :
+          (full : Bool) (f : Option StateFault)
+          → leb 512 (length held) ≡ full
+          → cond full (Some Full) (or_else f (discipline_refusal s held o)) ≡ None
+          → (length held < 512) × (f ≡ None) × (discipline_refusal s held o ≡ None)
+      go true f room none = absurd (clash (sym (ap is_some none)))
+      go false (Some g) room none = absurd (clash (sym (ap is_some none)))
+      go false None room none = (leb-false 512 (length held) room, refl, none)
 
   pub when_full : 512 ≤ length held → refusal s held o ≡ Some Full
   when_full l =

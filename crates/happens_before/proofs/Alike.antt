@@ -1,5 +1,5 @@
 -- Traces that are alike up to a position: the same codes and marks, and the same numbers equal to one another.
-use Rattle.std.proofs.Common.{◌≡◌, ℕ, ◌<◌, true, cond, ◌⊎◌, ◌↔◌, List, sym, refl, ap, ◌∙◌, subst, subst₂, inl, inr, arith}
+use Rattle.std.proofs.Common.{◌≡◌, ℕ, ◌<◌, ◌≤◌, true, cond, ◌⊎◌, ◌↔◌, List, sym, refl, ap, ◌∙◌, subst, subst₂, inl, inr, arith}
 use Rattle.std.proofs.lemmas.Grind.{common_steps}
 use Rattle.recording.specs.Codes.{has_task, has_lock, has_location, has_target}
 use Rattle.recording.specs.declared.row.Row.{Row}
@@ -34,6 +34,16 @@ pub record Alike (n : ℕ) (xs ys : List Row) : Type 0 where
 
 pub alike_sym : {n : ℕ} {xs ys : List Row} → Alike n xs ys → Alike n ys xs
 alike_sym a = grind (arith, common_steps)
+
+pub alike_less : {n : ℕ} {xs ys : List Row} (m : ℕ) → m ≤ n → Alike n xs ys → Alike m xs ys
+alike_less m le a =
+    record {
+      codes = λ i l. a.codes i (omega arith);
+      marked = λ i l. a.marked i (omega arith);
+      threads = λ i j l u. a.threads i j (omega arith) (omega arith);
+      targets = λ i j l u. a.targets i j (omega arith) (omega arith);
+      items = λ i j l u. a.items i j (omega arith) (omega arith);
+    }
 
 -- the same rows up to n
 pub alike_rows : (n : ℕ) (xs ys : List Row) → ((i : ℕ) → i < n → row xs i ≡ row ys i) → Alike n xs ys

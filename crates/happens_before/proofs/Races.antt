@@ -1,5 +1,5 @@
 -- Traces that agree have the same races, of the same classes; and a pair has one class.
-use Rattle.std.proofs.Common.{◌≡◌, ℕ, ◌<◌, ◌⊎◌, ◌↔◌, List, length, sym, refl, ◌∙◌, inl, inr, arith}
+use Rattle.std.proofs.Common.{◌≡◌, ℕ, ◌<◌, ◌⊎◌, ◌↔◌, List, length, false, sym, refl, ◌∙◌, subst, inl, inr, arith}
 use Rattle.std.proofs.lemmas.Grind.{common_steps}
 use Rattle.recording.specs.declared.row.Row.{Row}
 use Rattle.happens_before.specs.Trace.{thread}
@@ -7,6 +7,9 @@ use Rattle.happens_before.specs.Order.{Precedence}
 use Rattle.happens_before.specs.Race.{Conflict, Race, TaskPost, Nearest, first, later, Environment, Delayed, Foreign, Apart}
 use Rattle.happens_before.specs.Race.{MultiThreaded, CoEnabled, DelayApart, CrossPosted, Class, multi_threaded, co_enabled, delayed, cross_posted, unknown}
 use Rattle.happens_before.specs.Theorems.{PostedFirst, SameBelow}
+use Rattle.happens_before.proofs.Tested.{Tested, equal, both, either}
+use Rattle.happens_before.proofs.Columns.{hb}
+use Rattle.happens_before.proofs.Least.{lacked_hb}
 use Rattle.happens_before.proofs.Agree.{Agree, agree_sym, before_agree, lacked_agree}
 
 -- ---- A chain goes back
@@ -22,6 +25,20 @@ module _ (trace : List Row) (posted : PostedFirst trace) where
       let b = task_post_earlier _ _ l t in
       let a = nearest_earlier P h (omega arith) in
       omega arith
+
+-- the first post that fits is one, where an operation has one task and a task one post
+pub nearest_one :
+    (trace : List Row)
+    → ((i a b : ℕ) → TaskPost trace i a → TaskPost trace i b → a ≡ b)
+    → (P : ℕ → Type 0) {i a b : ℕ}
+    → Nearest trace P i a
+    → Nearest trace P i b
+    → a ≡ b
+nearest_one trace one P (first t p) (first t' p') = one _ _ _ t t'
+nearest_one trace one P (first t p) (later t' n h) = absurd (n (subst P (one _ _ _ t t') p))
+nearest_one trace one P (later t n h) (first t' p') = absurd (n (subst P (one _ _ _ t' t) p'))
+nearest_one trace one P (later t n h) (later {a = b} t' n' h') =
+    nearest_one trace one P h (subst (λ x. Nearest trace P x b) (one _ _ _ t' t) h')
 
 -- ---- From one trace to one that agrees with it
 
@@ -64,6 +81,9 @@ module _ {n : ℕ} {xs ys : List Row} (g : Agree n xs ys) where
 module _ {n : ℕ} {xs ys : List Row} (g : Agree n xs ys) where
   pub conflict_agree : (i j : ℕ) → i < n → j < n → Conflict xs i j ↔ Conflict ys i j
   conflict_agree i j l u = (conflict_to g i j l u, conflict_to (agree_sym g) i j l u)
+
+  pub task_post_agree : (i a : ℕ) → i < n → TaskPost xs i a ↔ TaskPost ys i a
+  task_post_agree i a l = (task_post_to g i a l, task_post_to (agree_sym g) i a l)
 
   pub nearest_agree :
       (P Q : ℕ → Type 0)
@@ -163,6 +183,22 @@ module _ {n : ℕ} {xs ys : List Row} (g : Agree n xs ys) (D : Precedence) (i j 
           (ij, omega arith, (conflict_agree h i j (omega arith) u).0 c, (lacked_agree h D i j u).0 lacks)
 
 -- ---- Races by the computed order
+
+abbrev pub test_conflict : (trace : List Row) (i j : ℕ) → Tested (Conflict trace i j)
+test_conflict trace i j =
+    both (equal _ _)
+    (λ _.
+    either (both (equal _ _) (λ _. equal _ _))
+    (λ _. either (both (equal _ _) (λ _. equal _ _)) (λ _. both (equal _ _) (λ _. equal _ _))))
+
+pub race_hb :
+    (D : Precedence) (trace : List Row)
+    → PostedFirst trace
+    → (i j : ℕ)
+    → Race D trace i j ↔ ((i < j) × (j < length trace) × Conflict trace i j × (hb D trace i j ≡ false))
+race_hb D trace posted i j =
+    let e = lacked_hb D trace posted i j in
+    (λ (ij, l, c, o). (ij, l, c, e.0 o), λ (ij, l, c, o). (ij, l, c, e.1 o))
 
 -- ---- One class
 

@@ -73,6 +73,10 @@ nearest_to_agree g i posts l right =
       foreign = finds_like _ _ _ (λ a. nearest_foreign g i l i a l) right.foreign;
     }
 
+-- none are held: none are right
+pub nearest_right_none : NearestRight [] []
+nearest_right_none i l = let z : ⊥ = omega arith in absurd z
+
 pub nearest_right_cut :
     (n : ℕ) (held : List Row) (nearests : List NearestPosts)
     → PostedFirst held

@@ -1,17 +1,19 @@
 -- What a list gives whose operations were each accepted on what stood before.
-use Rattle.std.proofs.Common.{◌≡◌, ℕ, ◌<◌, ◌≤◌, Bool, true, false, ◌&&◌, ◌||◌, eqb, List, [], ◌∷◌, ◌++◌, length, take, None, sym, refl, ap, ◌∙◌, subst, ⊎_elim, arith, eq-eqb, eqb-true, leb-false}
+use Rattle.std.proofs.Common.{◌≡◌, ℕ, ◌<◌, ◌≤◌, Bool, true, false, not, ◌&&◌, ◌||◌, eqb, List, [], ◌∷◌, ◌++◌, length, take, None, sym, refl, ap, ◌∙◌, subst, ⊎_elim, arith, eq-eqb, eqb-true, leb-false}
 use Rattle.std.proofs.lemmas.Grind.{common_steps}
-use borrow.Author.Tests.{both_ways}
+use borrow.Author.Tests.{not-true, both_ways, lt-leb}
 use Rattle.std.proofs.lemmas.List.{length-take}
 use Rattle.std.proofs.lemmas.Bool.{cases_order, cases_lt, and_parts, and_from, or_parts}
 use Rattle.recording.specs.Codes.{post, begin, end}
+use Rattle.recording.specs.Faults.{first}
 use Rattle.recording.specs.Lawful.{lawful}
 use Rattle.recording.specs.declared.row.Row.{Row}
 use Rattle.recording.proofs.LawfulRows.{passed, thread_fits, target_fits, task_fits, lock_fits, item_fits}
 use Rattle.happens_before.specs.Trace.{row, code, thread, item, Does, Belongs, Posts}
 use Rattle.happens_before.specs.Race.{TaskPost}
 use Rattle.happens_before.specs.Theorems.{PostedFirst, InRange, AllInRange}
-use Rattle.rules.specs.Acceptance.{Setting, is_on, does_on, current, busy, posted, waits, thread_not_ready, wrong_target, wrong_queue, wrong_lock, out_of_turn, not_admitted, state_tests, refusal}
+use Rattle.rules.specs.declared.faults.StateFault.TheVariants.{Full, ThreadNotReady, WrongTarget, WrongQueue, WrongLock, OutOfTurn, NotAdmitted}
+use Rattle.rules.specs.Acceptance.{Setting, is_on, does_on, current, busy, posted, begun, waits, thread_not_ready, wrong_target, wrong_queue, wrong_lock, out_of_turn, not_admitted, state_tests, refusal}
 use Rattle.rules.specs.Fair.{Fair, FairTables, no_discipline, turn_without_discipline, refused_by_tables}
 use Rattle.rules.proofs.Places.{coded_held, some_before, found_before, lasting_before}
 use Rattle.rules.proofs.Pushes.{some_below_true}
@@ -40,6 +42,20 @@ accepted s held o h =
       in_turn = no 5;
       admitted = no 6;
     }
+
+pub refusal_none : (s : Setting) (held : List Row) (o : Row) → Accepted s held o → refusal s held o ≡ None
+unfolding refusal
+refusal_none s held o a =
+    λ t.
+    first
+    ((lt-leb 512 (length held) a.room t, Full)
+    ∷ (a.thread_ready t, ThreadNotReady)
+    ∷ (a.right_target t, WrongTarget)
+    ∷ (a.right_queue t, WrongQueue)
+    ∷ (a.right_lock t, WrongLock)
+    ∷ (a.in_turn t, OutOfTurn)
+    ∷ (a.admitted t, NotAdmitted)
+    ∷ [])
 
 pub record Allowed (initial : ℕ → Bool) (held : List Row) (o : Row) : Type 0 where
   pub thread_ready : thread_not_ready (no_discipline initial) held o ≡ false
@@ -148,6 +164,9 @@ module _ (initial : ℕ → Bool) (held : List Row) (o : Row) (a : Allowed initi
   pub begin_turn : o.code ≡ begin → (busy held o.thread ≡ false) × (waits held o.thread o.item ≡ true)
   begin_turn e = grind (arith, common_steps)
 
+  pub end_turn : o.code ≡ end → current held o.thread o.item ≡ true
+  end_turn e = grind (arith, common_steps)
+
 module _ (initial : ℕ → Bool) (held : List Row) (fair : FairTables initial held) where
   pub lawful_at : (i : ℕ) → i < length held → lawful (row held i) ≡ true
   lawful_at i l = (fair i l).0
@@ -195,6 +214,21 @@ module _ (initial : ℕ → Bool) (held : List Row) (fair : FairTables initial h
       let u = r.1 in
       let q = one_post r.0 b (item held j) r.2 p in
       omega arith
+
+  -- a task begins once
+  no_later_begin : (a b : ℕ) → code held a ≡ begin → code held b ≡ begin → item held a ≡ item held b → a < b → ⊥
+  no_later_begin a b c d e l =
+      let u = coded_held held b _ d in
+      let w = (begin_turn initial (take b held) (row held b) (allowed_at b u) d).1 in
+      let (_, n) = and_parts _ (not (begun (take b held) (item held b))) w in
+      both_ways _ (not-true _ n)
+      (some_before held b (is_on begin (item held b)) a l (omega arith) (is_on_lem a begin (item held b) c e))
+
+  pub one_begin : (a b : ℕ) → code held a ≡ begin → code held b ≡ begin → item held a ≡ item held b → a ≡ b
+  one_begin a b c d e =
+      ⊎_elim (λ e. e)
+      (⊎_elim (λ l. absurd (no_later_begin a b c d e l)) (λ l. absurd (no_later_begin b a d c (sym e) l)))
+      (cases_order a b)
 
   does_not : (k c t p : ℕ) → (Does held k c t p → ⊥) → does_on c t p (row held k) ≡ false
   does_not k c t p n = grind (arith, common_steps)

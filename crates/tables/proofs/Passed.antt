@@ -1,13 +1,18 @@
 -- What a row that passes all tests gives.
-use Rattle.std.proofs.Common.{◌≡◌, ℕ, ◌<◌, Bool, true, false, eqb, List, drop, None, arith}
+use Rattle.std.proofs.Common.{◌≡◌, ℕ, ◌<◌, Bool, true, false, eqb, List, drop, Some, None, arith}
+use Rattle.std.proofs.lemmas.Grind.{common_steps}
 use Rattle.recording.specs.Codes.{threadinit, fork, post, begin, end, acquire, release, has_target, has_task, has_lock}
-use Rattle.recording.specs.Lawful.{lawful}
+use Rattle.recording.specs.Lawful.{lawful, fault_in}
+use Rattle.recording.specs.declared.faults.record.RecordFault.{RecordFault}
 use Rattle.recording.specs.declared.row.Row.{Row}
 use Rattle.recording.proofs.LawfulRows.{test, passed, thread_fits, target_fits, task_fits, lock_fits}
 use Rattle.rules.specs.Acceptance.{created, unknown, busy, current, posted, holds, held_by_another, state_tests}
 use Rattle.rules.specs.Fair.{no_discipline}
 use Rattle.rules.specs.declared.faults.StateFault.{StateFault}
 use Rattle.tables.specs.Matches.{table_refusal}
+
+pub never_faulty : (o : Row) (f : RecordFault) → lawful o ≡ true → fault_in o ≡ Some f → ⊥
+never_faulty o f h e = grind (arith, common_steps)
 
 -- the bounds of a lawful row, by the fields that its code c has
 pub record Bounded (o : Row) : Type 0 where
