@@ -1,6 +1,6 @@
 //! Feeding a file.
 ghost use Rattle.recording.specs.Records.{row_in};
-ghost use Rattle.examination.specs.Holding.{held, setting_of, SameSetting};
+ghost use Rattle.examination.specs.Holding.{held, setting_of, SameSetting, FairlyHeld};
 ghost use Rattle.feeding.specs.Feeding.{Feeds, Takes};
 
 use crate::fault::FeedFault;
@@ -17,6 +17,7 @@ fn take<D: Discipline + Drop>(
 ) -> Result<(), FeedFault>
     ensures takes { Takes (setting_of D.Discipline.admission D.Discipline.precedence examination.old) (held examination.old) part.entry.number (row_in part.entry.bytes.now) result (held examination.new) }
     ensures setting { SameSetting examination.old examination.new }
+    ensures fair { FairlyHeld examination.old → FairlyHeld examination.new }
 {
     let number = part.number;
     let operation = part.operation()?;
@@ -34,6 +35,7 @@ pub fn feed<D: Discipline + Drop>(
 ) -> Result<usize, FeedFault>
     ensures feeds { Feeds (setting_of D.Discipline.admission D.Discipline.precedence examination.old) file.now (held examination.old) result (held examination.new) }
     ensures setting { SameSetting examination.old examination.new }
+    ensures fair { FairlyHeld examination.old → FairlyHeld examination.new }
 {
     let header = Header::read(file)?;
     for record in Reader::new(file) {

@@ -6,7 +6,7 @@ ghost use Rattle.recording.specs.Rows.{operation_row};
 ghost use Rattle.rules.specs.Acceptance.{Judged, refusal};
 ghost use Rattle.rules.specs.Answers.{Count};
 ghost use Rattle.races.specs.Chains.{NearestTo};
-ghost use Rattle.examination.specs.Holding.{held, setting_of, SameSetting};
+ghost use Rattle.examination.specs.Holding.{held, setting_of, SameSetting, FairlyHeld};
 ghost use Rattle.examination.specs.Calls.{Adds};
 
 use crate::chain::post_of;
@@ -59,6 +59,7 @@ impl<D: Discipline + Drop> Examination<D> {
         ensures position { result.position ≡ length (held self.old) }
         ensures holds { held self.new ≡ held self.old ++ operation_row operation ∷ [] }
         ensures setting { SameSetting self.old self.new }
+        ensures fair { FairlyHeld self.new }
         ensures counts { Count (length (held self.old)) (λ i. Before (D.Discipline.precedence self.old.discipline) (held self.new) i (length (held self.old))) result.before }
     {
         let position = self.rows.len();
@@ -78,6 +79,7 @@ impl<D: Discipline + Drop> Examination<D> {
     pub fn add(&mut self, operation: Operation) -> Result<Added, StateFault>
         ensures adds { Adds (setting_of D.Discipline.admission D.Discipline.precedence self.old) (held self.old) (operation_row operation) result (held self.new) }
         ensures setting { SameSetting self.old self.new }
+        ensures fair { FairlyHeld self.old → FairlyHeld self.new }
         ensures counts { IfOk result (λ a. Count (length (held self.old)) (λ i. Before (D.Discipline.precedence self.old.discipline) (held self.new) i (length (held self.old))) a.before) }
     {
         self.judge(operation)?;

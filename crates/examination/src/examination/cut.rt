@@ -1,6 +1,6 @@
 //! Cutting.
 ghost use Rattle.examination.specs.Calls.{Cuts};
-ghost use Rattle.examination.specs.Holding.{held, SameSetting};
+ghost use Rattle.examination.specs.Holding.{held, SameSetting, FairlyHeld};
 
 use crate::examination::Examination;
 use crate::state::State;
@@ -12,6 +12,7 @@ impl<D: Discipline + Drop> Examination<D> {
     pub fn cut(&mut self, n: usize) -> Result<(), NotHeld>
         ensures cuts { Cuts (held self.old) n result (held self.new) }
         ensures setting { SameSetting self.old self.new }
+        ensures fair { FairlyHeld self.old → FairlyHeld self.new }
     {
         if n > self.rows.len() {
             return Err(NotHeld);

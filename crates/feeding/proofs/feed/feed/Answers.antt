@@ -15,6 +15,7 @@ loop-record-init g c =
       ap (λ (x : Reader). x.records.now) same ∙ r.1,
       sym (ap (λ x. h ++ x) (no_rows c.args.file.now _ none) ∙ append-nil h),
       (λ k l. let z : ⊥ = omega (arith, none, l) in absurd z),
+      (λ k. k),
       (refl, refl),
     )
 
@@ -28,14 +29,15 @@ loop-record-preserved g c =
     let w = c.in_ok-take.ensures in
     let s = setting_of g.D.Discipline.admission g.D.Discipline.precedence e in
     let s' = setting_of g.D.Discipline.admission g.D.Discipline.precedence l.examination in
-    let same : s' ≡ s = same_setting g.D.Discipline.admission g.D.Discipline.precedence e l.examination i.3 in
+    let same : s' ≡ s = same_setting g.D.Discipline.admission g.D.Discipline.precedence e l.examination i.4 in
     let here = row_is file l.record-iterator.records.now c.in-Some.record.bytes.now l.record-iterator.number i.0 x.part.1 in
     let after = held c.take.new.examination in (
       x.same ∙ i.0,
       held_next s s' file (held e) (held l.examination) after l.record-iterator.number _ same i.1 i.2 here _ x.moves w.takes.2,
       taken_next s s' file (held e) (held l.examination) after l.record-iterator.number _ same i.1 i.2 here _ x.moves w.takes.0
           w.takes.1,
-      (w.setting.0 ∙ i.3.0, w.setting.1 ∙ i.3.1),
+      (λ k. w.fair (i.3 k)),
+      (w.setting.0 ∙ i.4.0, w.setting.1 ∙ i.4.1),
     )
 
 pub returns-in_err-take : goal.returns-in_err-take
@@ -49,7 +51,7 @@ returns-in_err-take g c =
     let w = c.in_err-take.ensures in
     let s = setting_of g.D.Discipline.admission g.D.Discipline.precedence e in
     let s' = setting_of g.D.Discipline.admission g.D.Discipline.precedence l.examination in
-    let same : s' ≡ s = same_setting g.D.Discipline.admission g.D.Discipline.precedence e l.examination i.3 in
+    let same : s' ≡ s = same_setting g.D.Discipline.admission g.D.Discipline.precedence e l.examination i.4 in
     let here = row_is file l.record-iterator.records.now c.in-Some.record.bytes.now l.record-iterator.number i.0 x.part.1 in
     let after = held c.take.new.examination in
     let fine = c.in_ok-header.ensures.0 in
@@ -60,7 +62,8 @@ returns-in_err-take g c =
           rw (p.1, p.2)
           (stopped s s' file (held e) (held l.examination) after l.record-iterator.number _ same i.1 i.2 here _ _ x.part.0 fine room
           w.takes);
-      setting = (w.setting.0 ∙ i.3.0, w.setting.1 ∙ i.3.1);
+      setting = (w.setting.0 ∙ i.4.0, w.setting.1 ∙ i.4.1);
+      fair = λ k. w.fair (i.3 k);
     }
 
 pub returns : goal.returns
@@ -82,5 +85,6 @@ returns g c =
         subst (Taken s file (held e)) all i.2,
         i.1 ∙ ap (λ n. held e ++ rows_of file n) all,
       );
-      setting = i.3;
+      setting = i.4;
+      fair = i.3;
     }

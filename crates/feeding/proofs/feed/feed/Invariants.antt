@@ -1,5 +1,5 @@
 use Rattle.std.proofs.Common.{◌≡◌, ◌++◌, drop}
-use Rattle.examination.specs.Holding.{held, setting_of, SameSetting}
+use Rattle.examination.specs.Holding.{held, setting_of, SameSetting, FairlyHeld}
 use Rattle.feeding.specs.Feeding.{Taken, rows_of}
 use Rattle.feeding.proofs.feed.feed.Given as goal
 
@@ -13,4 +13,5 @@ invariant-loop-record g l =
     l.file
     (held l.initial.examination)
     l.record-iterator.number
+    × (FairlyHeld l.initial.examination → FairlyHeld l.examination)
     × SameSetting l.initial.examination l.examination

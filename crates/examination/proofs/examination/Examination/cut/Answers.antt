@@ -35,3 +35,6 @@ invariant_of-self g c =
             (nearest_right_cut c.args.n (vec_items e.rows) (vec_items e.nearests) first x.near);
       },
     )
+
+pub returns-clause-fair : goal.returns-clause-fair
+returns-clause-fair g c = let kept = (invariant_of-self g c).1.sound in λ _. record { few = kept.few; fair = kept.fair }

@@ -105,3 +105,6 @@ returns-clause-counts g c =
     subst (λ h. Count (length (held before)) (λ i. Before P h i (length (held before))) n) (sym rows_are)
     (counted P (held before) o c.column_of-column.result n
     (subst (λ h. length h ≤ 512) seen c.self.invariant.1.sound.few) c.column_of-column.ensures c.count.ensures)
+
+pub returns-clause-fair : goal.returns-clause-fair
+returns-clause-fair g c = let kept = (invariant_of-self g c).1.sound in record { few = kept.few; fair = kept.fair }
