@@ -14,7 +14,7 @@ module _ (held : List Row) (p : ℕ) (ahead : ℕ → ℕ → Bool) where
   posts_so b e = grind (arith, common_steps)
 
   -- where every post of the task leaves the test false, so does the whole
-  none_ahead :
+  pub none_ahead :
       ((b : ℕ) → Posts held b p → some_below b (ahead b) ≡ false)
       → false ≡ some_below (length held) (λ b. is_on post p (row held b) && some_below b (ahead b))
   none_ahead none =
@@ -26,7 +26,7 @@ module _ (held : List Row) (p : ℕ) (ahead : ℕ → ℕ → Bool) where
       (λ e. and_left _ _ e)
       (cases_Bool (is_on post p (row held b)))))
 
-  one_ahead :
+  pub one_ahead :
       (b a : ℕ) → b < length held → Posts held b p → a < b → ahead b a ≡ true
       → true ≡ some_below (length held) (λ b. is_on post p (row held b) && some_below b (ahead b))
   one_ahead b a l h u e =

@@ -136,6 +136,10 @@ module _ (initial : ℕ → Bool) where
   TableAt : List Row → Row → Type 0
   TableAt held o = (lawful o ≡ true) × (refused_by_tables initial held o ≡ false)
 
+  pub tables_none : FairTables initial []
+  unfolding TableAt
+  tables_none = each_none TableAt
+
   pub tables_push :
       (held : List Row) (o : Row)
       → FairTables initial held

@@ -1,10 +1,11 @@
 -- The thread records still agree after one more operation.
-use Rattle.std.proofs.Common.{◌≡◌, ℕ, ◌<◌, Bool, cond, ◌||◌, List, [], ◌∷◌, ◌++◌, length, set, Some, None, sym, refl, subst, arith}
+use Rattle.std.proofs.Common.{◌≡◌, ℕ, ◌<◌, Bool, true, cond, ◌||◌, List, [], ◌∷◌, ◌++◌, length, set, Some, None, Option, sym, refl, subst, arith}
 use Rattle.std.proofs.lemmas.Grind.{common_steps}
 use Rattle.recording.specs.Codes.{threadinit, threadexit, attach_q, loop_on_q, begin, end}
 use Rattle.recording.specs.declared.row.Row.{Row}
 use Rattle.rules.specs.Acceptance.{does, forks, current}
 use Rattle.rules.proofs.Pushes.{some_push, lasting_push}
+use Rattle.rules.specs.Options.{is_of}
 use Rattle.tables.specs.declared.threads.Stage.TheVariants.{Created, Running, Finished}
 use Rattle.tables.specs.declared.threads.ThreadRecord.{ThreadRecord}
 use Rattle.tables.specs.Matches.{ThreadMatches}
@@ -28,6 +29,10 @@ after_is :
     → changed o < length threads
     → thread_at (set threads (changed o) (stepped o (thread_at threads (changed o)))) t ≡ after t o (thread_at threads t)
 after_is t o threads l = grind (arith, common_steps)
+
+-- a thread has one task at a time
+pub only_one : (c : Option ℕ) (m p : ℕ) → is_of c m ≡ true → is_of c p ≡ true → m ≡ p
+only_one c m p a b = grind (arith, common_steps)
 
 module _ (initial : ℕ → Bool) (held : List Row) (o : Row) (b : Bounded o) (a : Accepted initial held o) where
   thread_kept :
