@@ -20,7 +20,7 @@ fn digit(n: u16) -> char
 
 /// Adds a position in decimal.
 // not by `write!`: the report of 111,132 races would take 47 million instructions, and takes 31;
-// and by no library but the standard one, so that no other has to be trusted
+// and by no library but the standard one, so that none has to be trusted for it
 fn push_position(text: &mut String, position: u16) -> Result<(), AllocError>
     requires { position < 512 }
     ensures { OnOk result (string_bytes text.new ≡ string_bytes text.old ++ decimal position) }
@@ -35,6 +35,7 @@ fn push_position(text: &mut String, position: u16) -> Result<(), AllocError>
 }
 
 /// Adds the line of a race.
+// by parts, as `push_position` says
 fn push_race(text: &mut String, race: Race) -> Result<(), AllocError>
     ensures { OnOk result (string_bytes text.new ≡ string_bytes text.old ++ race_line (record { earlier = race.earlier; later = race.later; class = race_number race.class })) }
 {
