@@ -19,7 +19,7 @@ fn digit(n: u16) -> char
 }
 
 /// Adds a position in decimal.
-// not by `write!`: the report of 111,132 races takes 40 million instructions by it, and 31 so;
+// not by `write!`, with which the report of 111,132 races takes 40 million instructions and not 31;
 // and by no library but the standard one, so that none has to be trusted for it
 fn push_position(text: &mut String, position: u16) -> Result<(), AllocError>
     requires { position < 512 }
